@@ -1,0 +1,3 @@
+-- Theorems about `meaning`. A reader may skip all of it: the gate checks it.
+pub mod Basics
+pub mod Within
