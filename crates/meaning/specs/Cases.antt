@@ -1,5 +1,5 @@
--- The starred cases A to J of document 01, with every value it states of them, and two counted cases more, as one table under one statement
--- that computes; and a second table of the same make, which pins each refusal of a file with its place, and their order.
+-- The starred cases A to J of document 01, with every value it states of them, and three cases more for the counts and the rounds, as one table under one statement
+-- that computes.
 use Prim.Native.Nat.{ℕ, zero, suc, _+_, _-_, _*_, _/_, _%_}
 use mathlib.Core.Path.{_≡_, refl}
 use mathlib.Core.Bool.{Bool, true, false}
@@ -11,7 +11,6 @@ use Rattle.meaning.specs.Clauses.{Literal, pos, neg, Clause}
 use Rattle.meaning.specs.Meaning
 use Rattle.meaning.specs.Meaning.{Problem}
 use Rattle.meaning.specs.File
-use Rattle.meaning.specs.File.{clauses-most, lemmas-most}
 use Rattle.meaning.specs.Search
 use Rattle.meaning.specs.Rules
 use Rattle.meaning.specs.Calls
@@ -142,6 +141,18 @@ case-initial =
       lemmas = unit (pos 1) ∷ unit (neg 1) ∷ (pos 2 ∷ neg 1 ∷ []) ∷ [];
     }
 
+-- lemma 3 falls in the first round, and lemma 2 with it in the second
+unfoldable pub case-chain : Problem
+case-chain =
+    record {
+      n = 3;
+      m = 0;
+      init = unit (pos 1) ∷ unit (pos 2) ∷ unit (pos 3) ∷ [];
+      tr = takes 4 2 ++ takes 5 3 ++ takes 6 1;
+      bad = [];
+      lemmas = unit (pos 2) ∷ unit (pos 3) ∷ [];
+    }
+
 -- a call, and what it must come to
 pub record Line : Type 0 where
   pub job : Program
@@ -193,6 +204,7 @@ starred =
     line one-call (file-of case-J) 0 (sevens 3) (answered 0 0 (0 ∷ 0 ∷ 1 ∷ [])) ∷
     line one-call (file-of case-counted) 43 (sevens 5) (answered 43 0 (0 ∷ 0 ∷ 1 ∷ 1 ∷ 0 ∷ [])) ∷
     line list-call (file-of case-counted) 126 (sevens 5) (answered 126 1 (0 ∷ 0 ∷ 1 ∷ 1 ∷ 0 ∷ [])) ∷
+    line largest-call (file-of case-chain) 1 (sevens 3) (answered 1 0 (0 ∷ 0 ∷ 7 ∷ [])) ∷
     line largest-call (file-of case-initial) 1 (sevens 3) (answered 1 0 (0 ∷ 0 ∷ 0 ∷ [])) ∷
     line one-call (file-of case-initial) plenty (sevens 3) (refusal 11 0 1 0 (sevens 3)) ∷
     line list-call (file-of case-initial) plenty (sevens 3) (refusal 11 0 1 0 (sevens 3)) ∷
@@ -200,5 +212,5 @@ starred =
 
 -- each call of the table comes to what stands beside it
 pub starred-hold : map run-line starred ≡ map outcome-of starred
-unfolding two literal-bytes clause-bytes record-bytes clause-records file-of takes unit case-A case-B case-E case-F case-H case-J case-counted case-initial line run-line outcome-of sevens plenty starred Clauses.variable Clauses.negation Clauses.is-true Clauses.any Clauses.all Clauses.holds Clauses.all-hold Meaning.moment Meaning.has Meaning.at-marks Meaning.lemmas-of File.kind-table File.kind-row File.two-at File.signed File.literal-at File.literals File.largest-variable File.literal-count File.offends File.before-offence File.body-length File.kind-at File.body-at File.row-at File.same-kind File.is-clause File.head-short File.kind-wrong File.length-wrong File.body-short File.too-many File.counts-wrong File.body-literals File.body-most File.offence-at File.rule-if File.record-rules File.refuse-if File.first-wrong File.span-at File.one-if-clause File.past File.and-before File.at-end File.unless-end File.unless-refused File.walk File.at-start File.walked File.clause-of File.keep-if File.of-kind File.clauses-of File.problem-of File.reading-of File.read Search.blank Search.flipped Search.value Search.with-literal Search.says-true Search.says-false Search.has-true Search.only-false Search.keep-unset Search.unset-places Search.only-place Search.forced-by Search.first-place Search.open-in Search.or-else Search.first-of Search.rule-d Search.rule-c Search.rule-b Search.rule-a Search.move Search.after Search.then-false Search.follow Search.search-from Search.searched Rules.denied Rules.next Rules.lemma Rules.clauses Rules.answer Rules.width Rules.asked Rules.plus Rules.each Rules.sum Rules.size Rules.without Rules.with-position Rules.contains Rules.counted-on Rules.unless Rules.or-then Rules.first-yes Rules.no-rows Rules.later Rules.rows-after Rules.and-then Rules.pick Rules.lowest Rules.stays Rules.step-cost Rules.survivors Rules.round-cost Rules.removes Rules.until-none Rules.rounds-within Rules.rounds Rules.initial Rules.initial-cost Rules.largest Rules.largest-safety Rules.reduced Rules.reduced-safety Rules.becomes Rules.shrink-at Rules.shrink Rules.one-if Rules.one Rules.failing Rules.smaller-at Rules.smaller Rules.row-unless Rules.row-of Rules.node-unless Rules.node-if-safe Rules.exclude Rules.branch Rules.node-at Rules.node Rules.list-if Rules.listing Calls.refusal Calls.answered Calls.checked Calls.on-reading Calls.mark Calls.written Calls.marked Calls.within Calls.with-room Calls.row-or-stop Calls.cut Calls.listed Calls.largest-job Calls.one-job Calls.list-job Calls.check-call Calls.largest-call Calls.one-call Calls.list-call Meaning.k
+unfolding case-chain two literal-bytes clause-bytes record-bytes clause-records file-of takes unit case-A case-B case-E case-F case-H case-J case-counted case-initial line run-line outcome-of sevens plenty starred Clauses.variable Clauses.negation Clauses.is-true Clauses.any Clauses.all Clauses.holds Clauses.all-hold Meaning.k Meaning.moment Meaning.has Meaning.at-marks Meaning.lemmas-of File.no-kind File.kind-table File.kind-row File.two-at File.signed File.literal-at File.literals File.largest-variable File.literal-count File.offends File.before-offence File.body-length File.kind-at File.body-at File.row-at File.same-kind File.is-clause File.head-short File.kind-wrong File.length-wrong File.body-short File.too-many File.counts-wrong File.body-literals File.body-most File.offence-at File.rule-if File.record-rules File.refuse-if File.first-wrong File.span-at File.one-if-clause File.past File.and-before File.at-end File.unless-end File.unless-refused File.walk File.at-start File.walked File.clause-of File.keep-if File.of-kind File.clauses-of File.problem-of File.reading-of File.read Search.blank Search.flipped Search.value Search.with-literal Search.says-true Search.says-false Search.has-true Search.only-false Search.keep-unset Search.unset-places Search.only-place Search.forced-by Search.first-place Search.open-in Search.or-else Search.first-of Search.rule-d Search.rule-c Search.rule-b Search.rule-a Search.move Search.after Search.then-false Search.follow Search.search-from Search.searched Rules.denied Rules.next Rules.lemma Rules.clauses Rules.answer Rules.width Rules.asked Rules.plus Rules.each Rules.sum Rules.size Rules.without Rules.with-position Rules.contains Rules.counted-on Rules.unless Rules.or-then Rules.first-yes Rules.no-rows Rules.later Rules.rows-after Rules.and-then Rules.pick Rules.lowest Rules.stays Rules.step-cost Rules.survivors Rules.round-cost Rules.removes Rules.until-none Rules.rounds-within Rules.rounds Rules.initial Rules.initial-cost Rules.largest Rules.largest-safety Rules.reduced Rules.reduced-safety Rules.becomes Rules.shrink-at Rules.shrink Rules.one-if Rules.one Rules.failing Rules.smaller-at Rules.smaller Rules.row-unless Rules.row-of Rules.node-unless Rules.node-if-safe Rules.exclude Rules.branch Rules.node-at Rules.node Rules.list-if Rules.listing Calls.refusal Calls.answered Calls.checked Calls.on-reading Calls.mark Calls.written Calls.marked Calls.within Calls.with-room Calls.row-or-stop Calls.cut Calls.listed Calls.largest-job Calls.one-job Calls.list-job Calls.check-call Calls.largest-call Calls.one-call Calls.list-call
 starred-hold = refl

@@ -36,9 +36,15 @@ pub record Kind : Type 0 where
   pub class : Class
   pub most : ℕ
 
--- What each kind may hold is one table, read by every part: kinds 1 (counts), 2 (Init), 3 (Tr), 4 (Bad), 5 (lemma), 6 (end)
+-- the row of what is no kind
+unfoldable pub no-kind : Kind
+no-kind = record { shortest = 0; longest = 0; even = false; class = nothing; most = 0 }
+
+-- What each kind may hold is one table, read by every part: by kind, 0 (there is none), 1 (counts), 2 (Init), 3 (Tr), 4 (Bad), 5 (lemma),
+-- 6 (end)
 unfoldable pub kind-table : List Kind
 kind-table =
+    no-kind ∷
     record { shortest = 4; longest = 4; even = true; class = nothing; most = 1 } ∷
     record { shortest = 0; longest = 128; even = true; class = state; most = clauses-most } ∷
     record { shortest = 0; longest = 128; even = true; class = every; most = clauses-most } ∷
@@ -47,10 +53,9 @@ kind-table =
     record { shortest = 0; longest = 0; even = true; class = nothing; most = 1 } ∷
     []
 
--- the row of a kind, 1..6; any other kind has the row of nothing
+-- the row of a kind
 unfoldable pub kind-row : ℕ → Kind
-kind-row kind =
-    getD kind-table (kind - 1) (record { shortest = 0; longest = 0; even = false; class = nothing; most = 0 })
+kind-row kind = getD kind-table kind no-kind
 
 -- two bytes at a place, little-endian
 unfoldable pub two-at : List ℕ → ℕ → ℕ

@@ -7,3 +7,5 @@ pub mod Rules
 pub mod Calls
 pub mod Demands
 pub mod Cases
+pub mod Refusals
+pub mod Examples
