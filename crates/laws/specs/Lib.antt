@@ -3,3 +3,5 @@ pub mod Basics
 pub mod Within
 pub mod Accepted
 pub mod Runs
+pub mod Written
+pub mod Budget
