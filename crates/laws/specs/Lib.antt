@@ -5,3 +5,4 @@ pub mod Accepted
 pub mod Runs
 pub mod Written
 pub mod Budget
+pub mod FoundAt
