@@ -1,3 +1,7 @@
 -- Theorems about `meaning`. A reader may skip all of it: the gate checks it.
 pub mod Basics
 pub mod Within
+pub mod Setting
+pub mod Range
+pub mod Moves
+pub mod SearchRight
