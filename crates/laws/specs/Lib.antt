@@ -5,3 +5,7 @@ pub mod Setting
 pub mod Range
 pub mod Moves
 pub mod SearchRight
+pub mod Moment
+pub mod Marked
+pub mod Questions
+pub mod Inductive
