@@ -9,3 +9,4 @@ pub mod Moment
 pub mod Marked
 pub mod Questions
 pub mod Inductive
+pub mod Forced

@@ -47,6 +47,11 @@ unfolding variable negation
 variable-negation (pos x) = refl
 variable-negation (neg x) = refl
 
+pub negation-twice : (l : Literal) → negation (negation l) ≡ l
+unfolding negation
+negation-twice (pos x) = refl
+negation-twice (neg x) = refl
+
 -- what v holds of a literal's variable decides its value
 pub value-of-entry : (u v : Setting) (l : Literal) → getD u (variable l) none ≡ getD v (variable l) none → value u l ≡ value v l
 unfolding variable value
