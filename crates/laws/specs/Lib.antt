@@ -6,3 +6,12 @@ pub mod Runs
 pub mod Written
 pub mod Budget
 pub mod FoundAt
+pub mod Setting
+pub mod Range
+pub mod Moves
+pub mod SearchRight
+pub mod Moment
+pub mod Marked
+pub mod Questions
+pub mod Inductive
+pub mod Forced
