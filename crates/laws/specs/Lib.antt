@@ -1,3 +1,5 @@
 -- Theorems about `meaning`. A reader may skip all of it: the gate checks it.
 pub mod Basics
 pub mod Within
+pub mod Sets
+pub mod RoundsLargest
