@@ -3,3 +3,5 @@ pub mod Basics
 pub mod Within
 pub mod Sets
 pub mod RoundsLargest
+pub mod RowOrder
+pub mod OneSet

@@ -6,9 +6,11 @@ use mathlib.Core.Bool.{Bool, true, false, not, _&&_, and-false}
 use lib.ListN.{length, replicate, length-replicate, length-set}
 use native.Mathlib.Omega.{arith}
 use Rattle.meaning.specs.Meaning.{Marks, has, Part, ProperPart}
-use Rattle.meaning.specs.Rules.{Question, initiation, step, safety, Answer, plus, size, without, stays, survivors, removes, until-none, rounds-within, rounds, initial, largest, reduced}
+use Rattle.meaning.specs.Rules.{Question, initiation, step, safety, Answer, plus, size, without, stays, survivors, removes, until-none}
+use Rattle.meaning.specs.Rules.{rounds-within, rounds, initial, largest, reduced}
 use Rattle.laws.specs.Basics.{and-left, and-right, and-both, not-of-false, false-of-not}
-use Rattle.laws.specs.Sets.{has-filtered, length-each, some-passes, none-passes, has-range, has-full, has-without, part-trans, part-lacks, part-without, without-part, equal-by-parts, size-proper}
+use Rattle.laws.specs.Sets.{has-filtered, length-each, some-passes, none-passes, has-range, has-full, has-without, part-trans}
+use Rattle.laws.specs.Sets.{part-lacks, part-without, without-part, equal-by-parts, size-proper}
 
 -- each position of S keeps to S
 abbrev pub Closed : (Marks → Question → Answer) → Marks → Type 0

@@ -13,7 +13,8 @@ use native.Mathlib.Omega.{arith}
 use Rattle.meaning.specs.Clauses.{any, all}
 use Rattle.meaning.specs.Meaning.{Marks, has, Part}
 use Rattle.meaning.specs.Rules.{each, size, without, with-position, contains, pick, lowest}
-use Rattle.laws.specs.Basics.{bool-cases, not-both, not-true-is-false, and-left, and-right, and-both, or-left, or-right, or-right-of, not-of-true, not-of-false, true-of-not, false-of-not}
+use Rattle.laws.specs.Basics.{bool-cases, not-both, not-true-is-false, and-left, and-right, and-both, or-left, or-right, or-right-of}
+use Rattle.laws.specs.Basics.{not-of-true, not-of-false, true-of-not, false-of-not}
 
 -- f of each position, read at one position
 
@@ -237,8 +238,13 @@ lowest-from q (a ∷ A) K = at (a && not (has K q)) refl (lowest-from (suc q) A 
   where
     at : (b : Bool) → (a && not (has K q)) ≡ b → LowestFrom (suc q) A K (lowest (suc q) A K)
         → LowestFrom q (a ∷ A) K (pick b q (lowest (suc q) A K))
-    at true e rest =
-        (0, omega arith, and-left a (not (has K q)) e, false-of-not (has K q) (and-right a (not (has K q)) e), λ j l. absurd (not-suc-le-zero l))
+    at true e rest = (
+      0,
+      omega arith,
+      and-left a (not (has K q)) e,
+      false-of-not (has K q) (and-right a (not (has K q)) e),
+      λ j l. absurd (not-suc-le-zero l),
+    )
     at false e rest =
         skip q a A K (λ in-a. true-of-not (has K q) (not-true-is-false (λ t. not-both (and-both a (not (has K q)) in-a t) e)))
         (lowest (suc q) A K) rest
