@@ -5,3 +5,6 @@ pub mod Sets
 pub mod RoundsLargest
 pub mod RowOrder
 pub mod OneSet
+pub mod NodeQuestions
+pub mod NodeRight
+pub mod ListingRight
