@@ -12,7 +12,7 @@ use Rattle.laws.specs.Basics.{and-left, and-right, and-both, not-of-fals
 use Rattle.laws.specs.Sets.{has-filtered, length-each, some-passes, none-passes, has-range, has-full, has-without, part-trans}
 use Rattle.laws.specs.Sets.{part-lacks, part-without, without-part, equal-by-parts, size-proper}
 
--- each position of S keeps to S
+-- no step question of S is satisfiable
 abbrev pub Closed : (Marks → Question → Answer) → Marks → Type 0
 Closed ask S = (d : ℕ) → has S d ≡ true → ask S (step d) .sat ≡ false
 
@@ -32,7 +32,7 @@ abbrev pub Least : (Marks → Question → Answer) → ℕ → Marks → Type 0
 Least ask k S =
     Ind ask k S × SafeSet ask S × ((T : Marks) → length T ≡ k → ProperPart T S → Ind ask k T → SafeSet ask T → ⊥)
 
--- no more positions make a step or a safety question satisfiable
+-- with more positions, no step or safety question becomes satisfiable
 pub record Monotone (ask : Marks → Question → Answer) : Type 0 where
   pub mono-step : (S T : Marks) → Part S T → (d : ℕ) → ask S (step d) .sat ≡ false → ask T (step d) .sat ≡ false
   pub mono-safety : (S T : Marks) → Part S T → SafeSet ask S → SafeSet ask T
