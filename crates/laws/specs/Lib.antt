@@ -15,3 +15,10 @@ pub mod Marked
 pub mod Questions
 pub mod Inductive
 pub mod Forced
+pub mod Sets
+pub mod RoundsLargest
+pub mod RowOrder
+pub mod OneSet
+pub mod NodeQuestions
+pub mod NodeRight
+pub mod ListingRight
