@@ -22,3 +22,4 @@ pub mod OneSet
 pub mod NodeQuestions
 pub mod NodeRight
 pub mod ListingRight
+pub mod Paper
