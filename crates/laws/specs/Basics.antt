@@ -1,11 +1,15 @@
 -- Truth values, and tests over lists: what the other files lean on.
 use Prim.Native.Nat.{ℕ, zero, suc, _+_, _≤_, _<_}
+use native.Mathlib.Omega.{arith}
 use mathlib.Core.Path.{_≡_, refl, sym, ap, _∙_}
 use mathlib.Core.Logic.{_⊎_, inl, inr}
 use mathlib.Core.Bool.{Bool, true, false, not, _&&_, _||_, cond, true≢false}
 use mathlib.Core.List.{List, [], _∷_, _++_, map}
 use Rattle.meaning.specs.Clauses.{any, all}
 use Rattle.meaning.specs.Demands.{In}
+
+pub nonzero : (n : ℕ) → suc n ≡ 0 → ⊥
+nonzero n e = omega arith
 
 pub bool-cases : (b : Bool) → (b ≡ true) ⊎ (b ≡ false)
 bool-cases true = inl refl

@@ -14,6 +14,7 @@ use Rattle.meaning.specs.Meaning.{Marks}
 use Rattle.meaning.specs.Rules.{Row}
 use Rattle.meaning.specs.Calls.{Outcome, refusal, answered, written, marked, within, with-room, row-or-stop, cut}
 use Rattle.meaning.specs.Demands.{Answered, RefusedBy, rows-in}
+use Rattle.laws.specs.NodeRight.{sets-of}
 use Rattle.laws.specs.Written.{written-length, rows-written}
 
 -- ---- the marking jobs: refused by 10 exactly if the count is over the budget
@@ -52,9 +53,6 @@ marking-spent k budget found count lent room = (spent-over, over-spent)
 
 -- ---- the listing: a stopped one holds the first rows
 
-unfoldable pub sets-of : List Row → List Marks
-sets-of rows = map (λ (r : Row). r .marks) rows
-
 -- every row has k marks
 abbrev pub AllLong : ℕ → List Row → Type 0
 AllLong k [] = Unit {0}
@@ -82,7 +80,6 @@ refused-leaves k r number decisions rows lent no-zero =
 row-leaves : (k r : ℕ) (row : Row) (rest : List Row) (lent : List ℕ) (o : Outcome) → length (row .marks) ≡ k
     → r * k + k ≤ length lent → Leaves k (suc r) rest (written (r * k) (row .marks) lent) o
     → Leaves k r (row ∷ rest) lent o
-unfolding sets-of
 row-leaves k r row rest lent o long fits (j, e, all-there) = (
   suc j,
   e
@@ -103,7 +100,7 @@ row-leaves k r row rest lent o long fits (j, e, all-there) = (
 
 pub cut-leaves : (k budget r : ℕ) (rows : List Row) (count : ℕ) (lent : List ℕ) → AllLong k rows
     → Leaves k r rows lent (cut k budget r rows count lent)
-unfolding cut sets-of answered row-or-stop
+unfolding cut answered row-or-stop
 cut-leaves k budget r [] count lent long = go (ltb budget count)
   where
     go : (b : Bool) → Leaves k r [] lent (cond b (refusal 10 0 budget r lent) (answered count r lent))

@@ -23,3 +23,4 @@ pub mod NodeQuestions
 pub mod NodeRight
 pub mod ListingRight
 pub mod Paper
+pub mod DemandsHold

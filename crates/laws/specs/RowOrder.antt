@@ -1,6 +1,6 @@
 -- The order of rows: of two different sets one comes before the other; an ordered list has each set once, and ends with the last.
 use Prim.Native.Nat.{ℕ, zero, suc, _<_}
-use mathlib.Core.Path.{_≡_, refl, sym, ap, _∙_, subst}
+use mathlib.Core.Path.{_≡_, refl, sym, ap, _∙_, subst, ap₂}
 use mathlib.Core.Logic.{_⊎_, inl, inr}
 use mathlib.Core.Bool.{Bool, true, false}
 use mathlib.Core.List.{List, [], _∷_, _++_}
@@ -94,3 +94,25 @@ ordered-last S (U ∷ T ∷ l) o (inr h) after = further (ordered-last S (T ∷ 
   where
     further : (front : List Marks) × (T ∷ l ≡ front ++ (S ∷ [])) → (front : List Marks) × (U ∷ T ∷ l ≡ front ++ (S ∷ []))
     further t = (U ∷ t .0, ap (λ m. U ∷ m) (t .1))
+
+-- ordered lists of the same sets are equal
+pub ordered-unique : (l m : List Marks) → Ordered l → Ordered m → ((S : Marks) → In S l → In S m) → ((S : Marks) → In S m → In S l) → l ≡ m
+ordered-unique [] [] ol om to from = refl
+ordered-unique [] (T ∷ m) ol om to from = absurd (from T (inl refl))
+ordered-unique (S ∷ l) [] ol om to from = absurd (to S (inl refl))
+ordered-unique (S ∷ l) (T ∷ m) ol om to from =
+    let same = heads (to S (inl refl)) (from T (inl refl)) in
+    ap₂ {A = Marks} {B = List Marks} {C = List Marks} (λ U rest. U ∷ rest) same
+    (ordered-unique l m (ol .1) (om .1)
+    (λ U i. tail-in S T l m same (ol .0) U i (to U (inr i)))
+    (λ U i. tail-in T S m l (sym same) (om .0) U i (from U (inr i))))
+  where
+    heads : In S (T ∷ m) → In T (S ∷ l) → S ≡ T
+    heads (inl e) j = e
+    heads (inr i) (inl e) = sym e
+    heads (inr i) (inr j) = absurd (not-both-before S T (before-all-at S T l (ol .0) j) (before-all-at T S m (om .0) i))
+
+    tail-in : (A B : Marks) (as′ bs : List Marks) → A ≡ B → BeforeAll A as′ → (U : Marks) → In U as′ → In U (B ∷ bs) → In U bs
+    tail-in A B as′ bs e before U i (inl g) =
+        absurd (not-before-itself A (subst (Before A) (g ∙ sym e) (before-all-at A U as′ before i)))
+    tail-in A B as′ bs e before U i (inr j) = j
