@@ -24,3 +24,4 @@ pub mod NodeRight
 pub mod ListingRight
 pub mod Paper
 pub mod DemandsHold
+pub mod Useless

@@ -184,6 +184,7 @@ starred =
     line one-call (file-of case-A) plenty (sevens 3) (answered 0 0 (1 ∷ 1 ∷ 7 ∷ [])) ∷
     line list-call (file-of case-B) plenty (sevens 8) (answered 3 2 (1 ∷ 0 ∷ 0 ∷ 0 ∷ 1 ∷ 1 ∷ 7 ∷ 7 ∷ [])) ∷
     line list-call (file-of case-B) 3 (sevens 6) (answered 3 2 (1 ∷ 0 ∷ 0 ∷ 0 ∷ 1 ∷ 1 ∷ [])) ∷
+    line largest-call (file-of case-B) 0 (sevens 3) (answered 0 0 (1 ∷ 1 ∷ 1 ∷ [])) ∷
     line one-call (file-of case-B) 0 (sevens 3) (answered 0 0 (0 ∷ 1 ∷ 1 ∷ [])) ∷
     line list-call (file-of case-B) 2 (sevens 8) (refusal 10 0 2 1 (1 ∷ 0 ∷ 0 ∷ 7 ∷ 7 ∷ 7 ∷ 7 ∷ 7 ∷ [])) ∷
     line list-call (file-of case-B) 1 (sevens 8) (refusal 10 0 1 0 (sevens 8)) ∷
