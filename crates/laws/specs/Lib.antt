@@ -25,3 +25,4 @@ pub mod ListingRight
 pub mod Paper
 pub mod DemandsHold
 pub mod Useless
+pub mod Feed
