@@ -5,10 +5,12 @@ use mathlib.Core.Logic.{_↔_, _⊎_, inl, inr}
 use mathlib.Core.Bool.{Bool, true, false}
 use mathlib.Core.Option.{Option, none, some}
 use mathlib.Core.List.{List, [], _∷_, _++_}
-use lib.ListN.{length, replicate}
+use lib.ListN.{length, replicate, length-replicate}
 use Rattle.meaning.specs.Meaning.{Problem, k, Marks, has, SetOf, Inductive, Safe, SafeInductive, Part, ProperPart, Minimal}
 use Rattle.meaning.specs.Rules.{Question, initiation, step, safety, asked, largest, one, listing}
 use Rattle.meaning.specs.Demands.{In, Complete, IsLargest, SomeSafeInductive}
+use Rattle.laws.specs.Basics.{not-both}
+use Rattle.laws.specs.Sets.{has-empty}
 use Rattle.laws.specs.Within.{WellFormed}
 use Rattle.laws.specs.Questions.{safety-means, initiation-any, step-monotone, safety-monotone}
 use Rattle.laws.specs.Inductive.{inductive-means}
@@ -47,6 +49,13 @@ module _ (p : Problem) (fine : WellFormed p) where
       λ T sized part both. h .2 T sized part (inductive-is T sized .0 (both .1)) (safety-means p fine T .1 (both .0)),
     ),
   )
+
+  -- The empty set is inductive.
+  pub empty-inductive : Inductive p (replicate (k p) false)
+  empty-inductive =
+      let out : (d : ℕ) → has (replicate (k p) false) d ≡ true → ⊥ = λ d h. not-both h (has-empty (k p) d) in
+      inductive-is (replicate (k p) false) (length-replicate (k p) false) .1
+      (length-replicate (k p) false, (λ d h. absurd (out d h)), λ d h. absurd (out d h))
 
   -- Largest set: inductive, and it contains every inductive set; there is one such set
   pub largest-is : IsLargest p (largest (asked p) (k p) .marks)
