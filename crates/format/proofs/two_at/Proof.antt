@@ -1,41 +1,47 @@
+-- `two_at` reads two bytes, little-endian: each is below 256, so the number is below 65,536.
+use Prim.Native.Nat.{_+_, _*_, _<_}
+use mathlib.Core.Path.{_≡_, refl, sym, ap, _∙_}
+use lib.ListN.{getD}
+use native.Mathlib.Omega.{arith}
 use borrow.Author.Needs.{needs}
+use Rattle.meaning.specs.File
 use Rattle.format.proofs.two_at.Statement.{statement}
 use Rattle.format.proofs.two_at.Tie as tie
 use Rattle.format.proofs.two_at.Reads as reads
 use Rattle.format.proofs.two_at.Lts as lts
 use Rattle.format.proofs.wide.Reads as wide-reads
 
--- src/lib.rt:132:10
 shared-slice-read-wide : tie.Need-shared-slice-read-wide
 shared-slice-read-wide c = search needs
 
--- src/lib.rt:132:5
 wide-requires : tie.Need-wide-requires
 wide-requires c κs = search needs
 
--- src/lib.rt:132:38
 add-wide : tie.Need-add-wide
 add-wide c = search needs
 
--- src/lib.rt:132:33
 shared-slice-read-wide-2 : tie.Need-shared-slice-read-wide-2
 shared-slice-read-wide-2 c = search needs
 
--- src/lib.rt:132:28
 wide-requires-2 : tie.Need-wide-requires-2
 wide-requires-2 c κs = search needs
 
--- src/lib.rt:132:22
+-- each byte is below 256
+low : (c : lts.After-wide2 (wide-reads.Asked, wide-reads.Learnt) reads.Pre reads.Post) → c .before .before .wide .result < 256
+low c = omega (arith, c .before .shared-slice-known3 .given (c .before .before .before .before .before .args .at))
+
+high : (c : lts.After-wide2 (wide-reads.Asked, wide-reads.Learnt) reads.Pre reads.Post) → c .wide2 .result < 256
+high c = omega (arith, c .before .shared-slice-known3 .given (c .before .before .before .before .before .args .at + 1))
+
 mul-result : tie.Need-mul-result
-mul-result c = ?a
+mul-result c = omega (arith, high c)
 
--- src/lib.rt:132:5
 add-result : tie.Need-add-result
-add-result c = ?b
+add-result c = omega (arith, low c, high c)
 
--- src/lib.rt:128:1
 returns : tie.Need-returns
-returns c = ?c
+unfolding File.two-at
+returns c = (omega arith, omega (arith, low c, high c))
 
 pub two-at-spec : {M : Type 1} → statement M
 two-at-spec =
