@@ -27,21 +27,24 @@ wide-requires-2 : tie.Need-wide-requires-2
 wide-requires-2 c κs = search needs
 
 -- each byte is below 256
-low : (c : lts.After-wide2 (wide-reads.Asked, wide-reads.Learnt) reads.Pre reads.Post) → c .before .before .wide .result < 256
-low c = omega (arith, c .before .shared-slice-known3 .given (c .before .before .before .before .before .args .at))
-
-high : (c : lts.After-wide2 (wide-reads.Asked, wide-reads.Learnt) reads.Pre reads.Post) → c .wide2 .result < 256
-high c = omega (arith, c .before .shared-slice-known3 .given (c .before .before .before .before .before .args .at + 1))
+bytes : (c : lts.After-wide2 (wide-reads.Asked, wide-reads.Learnt) reads.Pre reads.Post)
+    → (c .before .before .wide .result < 256) × (c .wide2 .result < 256)
+bytes c =
+    let at = c .before .before .before .before .before .args .at in
+    let byte = c .before .shared-slice-known3 .given in (
+      omega (arith, byte at, byte (at + 1)),
+      omega (arith, byte at, byte (at + 1)),
+    )
 
 mul-result : tie.Need-mul-result
-mul-result c = omega (arith, high c)
+mul-result c = omega (arith, bytes c .1)
 
 add-result : tie.Need-add-result
-add-result c = omega (arith, low c, high c)
+add-result c = omega (arith, bytes c .0, bytes c .1)
 
 returns : tie.Need-returns
 unfolding File.two-at
-returns c = (omega arith, omega (arith, low c, high c))
+returns c = (omega arith, omega (arith, bytes c .0, bytes c .1))
 
 pub two-at-spec : {M : Type 1} → statement M
 two-at-spec =
