@@ -117,6 +117,7 @@ fn order(rules: Rules) -> [Test; 5] {
         Rules::BodyBeforeLength => [Kind, Body, Length, Count, Content],
         Rules::CountBeforeBody => [Kind, Length, Count, Body, Content],
         Rules::ContentBeforeCount => [Kind, Length, Body, Content, Count],
+        Rules::ContentLast => [Kind, Length, Body, Count, Count],
         _ => [Kind, Length, Body, Count, Content],
     }
 }
@@ -194,6 +195,10 @@ pub fn read(bytes: &[u8], rules: Rules) -> Result<Problem, Refusal> {
     if too_long && !rules.breaks(Rules::FileSizeLast) {
         return Err(Refusal { number: 1, place: 0 });
     }
+    if rules.breaks(Rules::ContentLast) {
+        read_records(bytes, rules)?;
+        return read(bytes, Rules::TRUE);
+    }
     let (problem, end) = read_records(bytes, rules)?;
     if too_long {
         return Err(Refusal { number: 1, place: 0 });
@@ -205,7 +210,7 @@ pub fn read(bytes: &[u8], rules: Rules) -> Result<Problem, Refusal> {
 }
 
 /// Reads the records up to the end record; gives the problem and the place after that record.
-pub fn read_records(bytes: &[u8], rules: Rules) -> Result<(Problem, usize), Refusal> {
+fn read_records(bytes: &[u8], rules: Rules) -> Result<(Problem, usize), Refusal> {
     let mut problem = Problem::default();
     let mut place = 0;
     let mut before = 0;
@@ -226,6 +231,7 @@ pub fn read_records(bytes: &[u8], rules: Rules) -> Result<(Problem, usize), Refu
                 problem.n = two_bytes(bytes, record.body()) as usize;
                 problem.m = two_bytes(bytes, record.body() + 2) as usize;
             }
+            END if rules.breaks(Rules::GoesOnAfterEnd) && place < bytes.len() => {}
             END => return Ok((problem, place)),
             _ => problem.list(kind).push(record.literals()),
         }

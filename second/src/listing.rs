@@ -46,13 +46,15 @@ impl Questions<'_> {
     /// The node (K, A): the minimal sets that contain K and lie within A.
     fn node(&mut self, k: &Set, a: &Set, rows: &mut Rows) -> Result<(), Stop> {
         if self.is_safe_and_inductive(k)? {
-            if self.rules.breaks(Rules::RowRoomBeforeMinimality) && !rows.fits(k.len()) {
+            if self.rules.breaks(Rules::RoomBeforeMinimality) && !rows.fits(k.len()) {
                 return Err(Stop::NoRoom);
             }
             if self.is_minimal(k)? {
                 rows.write(k)?;
             }
-            return Ok(());
+            if !self.rules.breaks(Rules::NodeGoesOn) {
+                return Ok(());
+            }
         }
         let mut choices = (0..k.len()).filter(|&p| a[p] && !k[p]);
         let highest = self.rules.breaks(Rules::HighestPosition);
@@ -72,7 +74,9 @@ impl Questions<'_> {
     /// The second part of a node: X is Rounds of A without p, and then the node (K, X) if X
     /// contains K and is safe.
     fn exclude(&mut self, p: usize, k: &Set, a: &Set, rows: &mut Rows) -> Result<(), Stop> {
-        let x = self.rounds(without(a, p))?;
+        let rest = without(a, p);
+        let without_rounds = self.rules.breaks(Rules::ExcludeWithoutRounds);
+        let x = if without_rounds { rest } else { self.rounds(rest)? };
         let has_k = contains(&x, k);
         if !has_k && !self.rules.breaks(Rules::SafetyThoughXLacksK) {
             return Ok(());

@@ -21,7 +21,8 @@ impl<'a> Questions<'a> {
     /// Initiation of d: Init, then the negation of each literal of d.
     pub fn initiation(&mut self, d: usize) -> Result<bool, Spent> {
         let negated = negated(&self.problem.lemmas[d], 0);
-        let mut parts = vec![all(&self.problem.init), all(&negated)];
+        let init = self.list(&self.problem.init, Rules::InitReversed);
+        let mut parts = vec![init, all(&negated)];
         if self.rules.breaks(Rules::NegatedFirstInInitiation) {
             parts.reverse();
         }
@@ -32,7 +33,8 @@ impl<'a> Questions<'a> {
     pub fn step(&mut self, set: &Set, d: usize) -> Result<bool, Spent> {
         let negated = negated(&self.problem.lemmas[d], self.problem.n as i16);
         let lemmas = self.lemmas(set, Rules::LemmasReversedInStep);
-        let mut parts = vec![all(&self.problem.tr), lemmas, all(&negated)];
+        let tr = self.list(&self.problem.tr, Rules::TrReversed);
+        let mut parts = vec![tr, lemmas, all(&negated)];
         if self.rules.breaks(Rules::LemmasBeforeTr) {
             parts.swap(0, 1);
         }
@@ -45,11 +47,21 @@ impl<'a> Questions<'a> {
     /// Safety of S: the lemmas of S by position, then Bad.
     pub fn safety(&mut self, set: &Set) -> Result<bool, Spent> {
         let lemmas = self.lemmas(set, Rules::LemmasReversedInSafety);
-        let mut parts = vec![lemmas, all(&self.problem.bad)];
+        let bad = self.list(&self.problem.bad, Rules::BadReversed);
+        let mut parts = vec![lemmas, bad];
         if self.rules.breaks(Rules::BadBeforeLemmas) {
             parts.reverse();
         }
         self.ask(&parts)
+    }
+
+    /// A list of the file in its order.
+    fn list(&self, clauses: &'a [Clause], reversed: Rules) -> Vec<&'a [i16]> {
+        let mut list = all(clauses);
+        if self.rules.breaks(reversed) {
+            list.reverse();
+        }
+        list
     }
 
     fn lemmas(&self, set: &Set, reversed: Rules) -> Vec<&'a [i16]> {

@@ -39,6 +39,7 @@ impl Questions<'_> {
             let against = match self.rules {
                 Rules::DroppedWithinRound => next.clone(),
                 Rules::AgainstItselfAlone => (0..set.len()).map(|p| p == d).collect(),
+                Rules::StepWithoutItself => without(set, d),
                 _ => set.clone(),
             };
             let fails = self.rules.breaks(Rules::InitiationInRounds) && self.initiation(d)?;
@@ -64,7 +65,7 @@ impl Questions<'_> {
     /// The largest set, which must be safe: else refusal 11.
     pub fn largest_safe(&mut self) -> Result<Set, Stop> {
         let set = self.largest()?;
-        if self.safety(&set)? {
+        if !self.rules.breaks(Rules::LargestSafetyNotAsked) && self.safety(&set)? {
             return Err(Stop::NotSafe);
         }
         Ok(set)
@@ -82,6 +83,9 @@ impl Questions<'_> {
                 continue;
             }
             let smaller = self.rounds(rest)?;
+            if self.rules.breaks(Rules::OneBySingles) && spoiled(&set, &smaller) {
+                continue;
+            }
             if !self.safety(&smaller)? {
                 set = smaller;
             }
@@ -109,8 +113,7 @@ impl Questions<'_> {
         let reversed = self.rules.breaks(Rules::MinimalityFromTheTop);
         for p in positions_if_reversed(set, reversed) {
             let smaller = self.rounds(without(set, p))?;
-            let spoiled = positions(&smaller).len() + 1 < positions(set).len();
-            if spoiled && self.rules.breaks(Rules::MinimalityBySingles) {
+            if self.rules.breaks(Rules::MinimalityBySingles) && spoiled(set, &smaller) {
                 continue;
             }
             minimal &= self.safety(&smaller)?;
@@ -120,4 +123,9 @@ impl Questions<'_> {
         }
         Ok(minimal)
     }
+}
+
+/// Whether more than the one position went out.
+fn spoiled(set: &Set, smaller: &Set) -> bool {
+    positions(smaller).len() + 1 < positions(set).len()
 }

@@ -1,0 +1,114 @@
+//! Makes a call that shows a difference smaller, as long as the difference stays.
+
+use crate::file::{Clause, Problem};
+use crate::subject::Call;
+
+/// The smallest call found from this one for which the test still holds.
+pub fn shrink(call: Call, shows: &dyn Fn(&Call) -> bool) -> Call {
+    let mut call = call;
+    loop {
+        let smaller = smaller_calls(&call).find(|smaller| shows(smaller));
+        match smaller {
+            Some(smaller) => call = smaller,
+            None => return call,
+        }
+    }
+}
+
+type Each<'a, T> = Box<dyn Iterator<Item = T> + 'a>;
+
+fn smaller_calls(call: &Call) -> Each<'_, Call> {
+    let files: Each<Vec<u8>> = match call.problem() {
+        Some(problem) => Box::new(smaller_problems(problem).map(|smaller| smaller.to_bytes())),
+        None => Box::new(smaller_lists(&call.file)),
+    };
+    let by_file = files.map(move |file| Call { file, ..call.clone() });
+    let spaces = less(call.space as u64).map(move |space| Call { space: space as usize, ..call.clone() });
+    let budgets = less(call.budget as u64).map(move |budget| Call { budget: budget as u32, ..call.clone() });
+    Box::new(by_file.chain(spaces).chain(budgets))
+}
+
+fn less(number: u64) -> impl Iterator<Item = u64> {
+    let some = [0, number / 2, number.saturating_sub(1)];
+    some.into_iter().filter(move |&smaller| smaller < number)
+}
+
+/// The list without a run of its items, long runs first.
+fn smaller_lists<T: Clone>(list: &[T]) -> impl Iterator<Item = Vec<T>> + '_ {
+    let halves = std::iter::successors(Some(list.len()), |run| Some(run / 2));
+    let runs = halves.take_while(|&run| run > 0);
+    let starts = move |run: usize| (0..=list.len() - run).step_by(run.div_ceil(2));
+    runs.flat_map(move |run| {
+        starts(run).map(move |start| [&list[..start], &list[start + run..]].concat())
+    })
+}
+
+/// Each problem with a variable, a run of clauses or a run of literals less.
+fn smaller_problems(problem: Problem) -> Each<'static, Problem> {
+    let states = if problem.n > 1 { 1..=problem.n } else { 1..=0 };
+    let helpers = 2 * problem.n + 1..=problem.variables();
+    let (a, b, c, d) = (problem.clone(), problem.clone(), problem.clone(), problem);
+    let by_state = states.map(move |v| without_state(&a, v));
+    let by_helper = helpers.map(move |v| without_helper(&b, v));
+    let by_clause = (0..4).flat_map(move |list| {
+        let found: Vec<Vec<Clause>> = smaller_lists(list_of(&mut c.clone(), list)).collect();
+        let whole = c.clone();
+        found.into_iter().map(move |clauses| with_list(&whole, list, clauses))
+    });
+    let by_literal = (0..4).flat_map(move |list| {
+        let whole = d.clone();
+        let clauses = list_of(&mut d.clone(), list).clone();
+        (0..clauses.len()).flat_map(move |at| {
+            let (whole, clauses) = (whole.clone(), clauses.clone());
+            let found: Vec<Clause> = smaller_lists(&clauses[at]).collect();
+            found.into_iter().map(move |clause| {
+                let mut changed = clauses.clone();
+                changed[at] = clause;
+                with_list(&whole, list, changed)
+            })
+        })
+    });
+    Box::new(by_state.chain(by_helper).chain(by_clause).chain(by_literal))
+}
+
+fn list_of(problem: &mut Problem, list: usize) -> &mut Vec<Clause> {
+    match list {
+        0 => &mut problem.init,
+        1 => &mut problem.tr,
+        2 => &mut problem.bad,
+        _ => &mut problem.lemmas,
+    }
+}
+
+fn with_list(problem: &Problem, list: usize, clauses: Vec<Clause>) -> Problem {
+    let mut changed = problem.clone();
+    *list_of(&mut changed, list) = clauses;
+    changed
+}
+
+fn without_state(problem: &Problem, v: usize) -> Problem {
+    let mut smaller = problem.clone();
+    take_out(&mut smaller, problem.n + v);
+    take_out(&mut smaller, v);
+    smaller.n -= 1;
+    smaller
+}
+
+fn without_helper(problem: &Problem, v: usize) -> Problem {
+    let mut smaller = problem.clone();
+    take_out(&mut smaller, v);
+    smaller.m -= 1;
+    smaller
+}
+
+/// Takes out every literal of a variable and closes the gap in the numbers.
+fn take_out(problem: &mut Problem, v: usize) {
+    for list in 0..4 {
+        for clause in list_of(problem, list) {
+            clause.retain(|literal| literal.unsigned_abs() as usize != v);
+            for literal in clause.iter_mut().filter(|literal| literal.unsigned_abs() as usize > v) {
+                *literal -= literal.signum();
+            }
+        }
+    }
+}
