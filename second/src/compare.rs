@@ -7,11 +7,14 @@ use crate::jobs::Job;
 use crate::limits::{fixed, random_large, Source};
 use crate::mutants::Rules;
 use crate::random::{problem, Random, Sizes, SMALL};
+use crate::refusals::refusals;
 use crate::shrink::shrink;
 use crate::subject::{Call, Second, Subject};
 use std::fmt;
 
 const CAP: u32 = 2_000;
+/// The fixed files come when so many random ones have been tried.
+const FIXED_TURN: usize = 200;
 const MEDIUM: Sizes = Sizes { n: 6, m: 5, clauses: 12, lemmas: 6, literals: 5 };
 
 /// What a comparison found: the calls made, how often each number was the answer, and the first
@@ -26,14 +29,16 @@ pub struct Found {
 pub fn compare(one: &dyn Subject, other: &dyn Subject, calls: usize, seed: u64) -> Found {
     let mut random = Random(seed);
     let mut found = Found { calls: 0, numbers: [0; 13], difference: None };
-    let limits = fixed();
-    let mut turn = 0;
-    while found.calls < calls {
-        let source = match limits.get(turn) {
-            Some(limit) => limit.clone(),
-            None => source(&mut random),
-        };
-        turn += 1;
+    let mut waiting: Vec<Source> = Vec::new();
+    for turn in 0.. {
+        if found.calls >= calls {
+            break;
+        }
+        if turn == FIXED_TURN {
+            waiting = fixed();
+            waiting.extend(refusals().into_iter().map(|refused| plain(refused.file)));
+        }
+        let source = waiting.pop().unwrap_or_else(|| source(&mut random));
         for call in calls_with(&source, &mut random) {
             let outcome = call.outcome(one);
             found.calls += 1;
@@ -54,9 +59,12 @@ fn explain(call: Call, one: &dyn Subject, other: &dyn Subject) -> String {
     format!("{small}\n{}\n{}", answers[0], answers[1])
 }
 
+fn plain(file: Vec<u8>) -> Source {
+    Source { file, cap: CAP, jobs: &Job::ALL }
+}
+
 /// The next file: mostly small and random, some larger, damaged, from the bench, or near the limits.
 fn source(random: &mut Random) -> Source {
-    let plain = |file: Vec<u8>| Source { file, cap: CAP, listed: true };
     match random.below(100) {
         0..=49 => plain(problem(random, SMALL).to_bytes()),
         50..=64 => plain(problem(random, MEDIUM).to_bytes()),
@@ -72,7 +80,7 @@ fn source(random: &mut Random) -> Source {
         97..=98 => {
             let family = &FAMILIES[random.below(FAMILIES.len())];
             let file = (family.make)(family.sizes[random.below(2)]).to_bytes();
-            Source { file, cap: 60, listed: true }
+            Source { file, cap: 60, jobs: &Job::ALL }
         }
         _ => random_large(random),
     }
@@ -81,10 +89,7 @@ fn source(random: &mut Random) -> Source {
 /// The calls with one file: every job, budgets around its own count, spaces around its rows.
 fn calls_with(source: &Source, random: &mut Random) -> Vec<Call> {
     let mut calls = Vec::new();
-    for job in Job::ALL {
-        if job == Job::List && !source.listed {
-            continue;
-        }
+    for &job in source.jobs {
         let file = source.file.clone();
         let call = Call { job, file, budget: source.cap, space: 0 };
         let Some(problem) = call.problem() else {

@@ -1,7 +1,7 @@
 //! Damaged files: a good one with a few bytes or records changed.
 
 use crate::random::Random;
-use crate::write::record;
+use crate::write::{record, split};
 
 /// The file with one to three damages.
 pub fn damaged(random: &mut Random, file: &[u8]) -> Vec<u8> {
@@ -68,17 +68,4 @@ fn literal(random: &mut Random) -> i16 {
         0 => [0, i16::MIN, i16::MAX, 97, 321, -513][random.below(6)],
         _ => random.below(24) as i16 - 12,
     }
-}
-
-/// The records as their lengths say, the last one perhaps cut.
-fn split(file: &[u8]) -> Vec<Vec<u8>> {
-    let mut records = Vec::new();
-    let mut rest = file;
-    while !rest.is_empty() {
-        let length = if rest.len() < 4 { 0 } else { u16::from_le_bytes([rest[0], rest[1]]) as usize };
-        let (record, others) = rest.split_at(rest.len().min(4 + length));
-        records.push(record.to_vec());
-        rest = others;
-    }
-    records
 }

@@ -1,17 +1,21 @@
 //! Files at the limits of the format, each with the budgets that keep a call on it short.
 
 use crate::file::Problem;
+use crate::jobs::Job;
 use crate::notation::problem;
 use crate::random::{self, Random, Sizes};
 
-/// A file to call with: the largest budget to be used where its own count is larger, and whether
-/// a listing of it ends soon enough.
+/// A file to call with: the largest budget to be used where its own count is larger, and the jobs
+/// that end soon enough.
 #[derive(Clone)]
 pub struct Source {
     pub file: Vec<u8>,
     pub cap: u32,
-    pub listed: bool,
+    pub jobs: &'static [Job],
 }
+
+const MARKED: &[Job] = &[Job::Check, Job::Largest, Job::One];
+const LISTED: &[Job] = &[Job::Check, Job::Largest, Job::List];
 
 /// Case M: the largest n and m, and the most lemmas.
 pub fn most_of_all() -> Problem {
@@ -20,11 +24,10 @@ pub fn most_of_all() -> Problem {
     most
 }
 
-/// A search 512 levels deep: every variable has a clause that takes a decision.
+/// A search 511 levels deep: every variable but the one the lemma speaks of takes a decision.
 pub fn deep_search() -> Problem {
-    let mut deep = problem("n=96 m=320; lemmas (1 1)");
-    deep.tr = (1..=512).map(|v| vec![v, v]).collect();
-    deep.init = (1..=96).map(|v| vec![-v, -v]).collect();
+    let mut deep = problem("n=96 m=320; Init (1); lemmas (1 1)");
+    deep.tr = (1..=512).filter(|&v| v != 97).map(|v| vec![v, v]).collect();
     deep
 }
 
@@ -62,21 +65,20 @@ pub fn most_bytes() -> Problem {
 
 /// The fixed files at the limits.
 pub fn fixed() -> Vec<Source> {
-    let with = |problem: Problem, cap: u32, listed: bool| Source { file: problem.to_bytes(), cap, listed };
-    let m = with(most_of_all(), 4, false);
-    let bytes = with(most_bytes(), 6, true);
+    let with = |problem: Problem, cap: u32, jobs| Source { file: problem.to_bytes(), cap, jobs };
+    let bytes = with(most_bytes(), 6, &Job::ALL);
     let longer = Source { file: [&bytes.file[..], &[0]].concat(), ..bytes.clone() };
     let mut over = most_of_all();
     over.lemmas.push(vec![1]);
     let mut too_many = most_clauses();
     too_many.init.push(vec![1]);
     vec![
-        m,
-        with(over, 0, true),
-        with(deep_search(), 1_100, true),
-        with(deep_listing(), 200, true),
-        with(most_clauses(), 6, true),
-        with(too_many, 0, true),
+        with(most_of_all(), 4, MARKED),
+        with(over, 0, &Job::ALL),
+        with(deep_search(), 2_000, &Job::ALL),
+        with(deep_listing(), 200, LISTED),
+        with(most_clauses(), 6, &Job::ALL),
+        with(too_many, 0, &Job::ALL),
         bytes,
         longer,
     ]
@@ -86,5 +88,5 @@ pub fn fixed() -> Vec<Source> {
 pub fn random_large(random: &mut Random) -> Source {
     let sizes = Sizes { n: 96, m: 320, clauses: 300, lemmas: 128, literals: 6 };
     let file = random::problem(random, sizes).to_bytes();
-    Source { file, cap: 5, listed: false }
+    Source { file, cap: 5, jobs: MARKED }
 }

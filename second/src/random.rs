@@ -53,7 +53,19 @@ pub fn problem(random: &mut Random, sizes: Sizes) -> Problem {
     if !random.once_in(12) {
         result.bad = bad(random, &result);
     }
+    if random.once_in(10) {
+        hold_nowhere(random, &mut result);
+    }
     result
+}
+
+/// No Init state, and one lemma that never holds: every set with it is safe and inductive.
+fn hold_nowhere(random: &mut Random, problem: &mut Problem) {
+    problem.init.push(vec![]);
+    if problem.k() > 0 {
+        let p = random.below(problem.k());
+        problem.lemmas[p] = vec![];
+    }
 }
 
 /// Turns some literals of the lemmas to what Init says of them, so that more lemmas hold there.
@@ -65,8 +77,12 @@ fn lean_to_init(random: &mut Random, problem: &mut Problem) {
     }
 }
 
-/// Bad: mostly clauses that lemmas speak against, else any clauses.
+/// Bad: mostly clauses that lemmas speak against, else any clauses, or two that never hold together.
 fn bad(random: &mut Random, problem: &Problem) -> Vec<Clause> {
+    if random.once_in(12) {
+        let never = literal(random, problem.n);
+        return vec![vec![never, never], vec![-never, -never]];
+    }
     let count = 1 + random.below(3);
     if problem.k() == 0 || random.once_in(3) {
         return clauses(random, problem.n, count, 2);

@@ -2,12 +2,21 @@
 
 use crate::file::{Clause, Problem};
 use crate::subject::Call;
+use crate::write::split;
+use std::rc::Rc;
+
+/// So many smaller calls are tried in all; long files would take too long otherwise.
+const TRIES: usize = 20_000;
 
 /// The smallest call found from this one for which the test still holds.
 pub fn shrink(call: Call, shows: &dyn Fn(&Call) -> bool) -> Call {
     let mut call = call;
+    let mut left = TRIES;
     loop {
-        let smaller = smaller_calls(&call).find(|smaller| shows(smaller));
+        let smaller = smaller_calls(&call).take(left).find(|smaller| {
+            left -= 1;
+            shows(smaller)
+        });
         match smaller {
             Some(smaller) => call = smaller,
             None => return call,
@@ -20,7 +29,7 @@ type Each<'a, T> = Box<dyn Iterator<Item = T> + 'a>;
 fn smaller_calls(call: &Call) -> Each<'_, Call> {
     let files: Each<Vec<u8>> = match call.problem() {
         Some(problem) => Box::new(smaller_problems(problem).map(|smaller| smaller.to_bytes())),
-        None => Box::new(smaller_lists(&call.file)),
+        None => Box::new(smaller_bytes(&call.file)),
     };
     let by_file = files.map(move |file| Call { file, ..call.clone() });
     let spaces = less(call.space as u64).map(move |space| Call { space: space as usize, ..call.clone() });
@@ -33,42 +42,53 @@ fn less(number: u64) -> impl Iterator<Item = u64> {
     some.into_iter().filter(move |&smaller| smaller < number)
 }
 
+/// The file without a run of its records, or without a run of its bytes.
+fn smaller_bytes(file: &[u8]) -> impl Iterator<Item = Vec<u8>> {
+    let by_record = smaller_lists(split(file)).map(|records| records.concat());
+    by_record.chain(smaller_lists(file.to_vec()))
+}
+
 /// The list without a run of its items, long runs first.
-fn smaller_lists<T: Clone>(list: &[T]) -> impl Iterator<Item = Vec<T>> + '_ {
+fn smaller_lists<T: Clone>(list: Vec<T>) -> impl Iterator<Item = Vec<T>> {
     let halves = std::iter::successors(Some(list.len()), |run| Some(run / 2));
     let runs = halves.take_while(|&run| run > 0);
-    let starts = move |run: usize| (0..=list.len() - run).step_by(run.div_ceil(2));
+    let list = Rc::new(list);
     runs.flat_map(move |run| {
-        starts(run).map(move |start| [&list[..start], &list[start + run..]].concat())
+        let list = Rc::clone(&list);
+        let starts = (0..=list.len() - run).step_by(run.div_ceil(2));
+        starts.map(move |start| [&list[..start], &list[start + run..]].concat())
     })
 }
 
-/// Each problem with a variable, a run of clauses or a run of literals less.
-fn smaller_problems(problem: Problem) -> Each<'static, Problem> {
+/// Each problem with a run of clauses, a variable or a run of literals less.
+fn smaller_problems(problem: Problem) -> impl Iterator<Item = Problem> {
     let states = if problem.n > 1 { 1..=problem.n } else { 1..=0 };
     let helpers = 2 * problem.n + 1..=problem.variables();
-    let (a, b, c, d) = (problem.clone(), problem.clone(), problem.clone(), problem);
-    let by_state = states.map(move |v| without_state(&a, v));
-    let by_helper = helpers.map(move |v| without_helper(&b, v));
+    let whole = Rc::new(problem);
+    let (a, b, c, d) = (whole.clone(), whole.clone(), whole.clone(), whole);
     let by_clause = (0..4).flat_map(move |list| {
-        let found: Vec<Vec<Clause>> = smaller_lists(list_of(&mut c.clone(), list)).collect();
-        let whole = c.clone();
-        found.into_iter().map(move |clauses| with_list(&whole, list, clauses))
+        let whole = a.clone();
+        let smaller = smaller_lists(list_of(&mut Problem::clone(&whole), list).clone());
+        smaller.map(move |clauses| with_list(&whole, list, clauses))
     });
+    let by_state = states.map(move |v| without_state(&b, v));
+    let by_helper = helpers.map(move |v| without_helper(&c, v));
     let by_literal = (0..4).flat_map(move |list| {
         let whole = d.clone();
-        let clauses = list_of(&mut d.clone(), list).clone();
-        (0..clauses.len()).flat_map(move |at| {
-            let (whole, clauses) = (whole.clone(), clauses.clone());
-            let found: Vec<Clause> = smaller_lists(&clauses[at]).collect();
-            found.into_iter().map(move |clause| {
-                let mut changed = clauses.clone();
-                changed[at] = clause;
-                with_list(&whole, list, changed)
-            })
-        })
+        let count = list_of(&mut Problem::clone(&whole), list).len();
+        (0..count).flat_map(move |at| with_shorter_clause(&whole, list, at))
     });
-    Box::new(by_state.chain(by_helper).chain(by_clause).chain(by_literal))
+    by_clause.chain(by_state).chain(by_helper).chain(by_literal)
+}
+
+fn with_shorter_clause(whole: &Rc<Problem>, list: usize, at: usize) -> impl Iterator<Item = Problem> {
+    let whole = whole.clone();
+    let clauses = list_of(&mut Problem::clone(&whole), list).clone();
+    smaller_lists(clauses[at].clone()).map(move |clause| {
+        let mut changed = clauses.clone();
+        changed[at] = clause;
+        with_list(&whole, list, changed)
+    })
 }
 
 fn list_of(problem: &mut Problem, list: usize) -> &mut Vec<Clause> {

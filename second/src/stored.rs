@@ -4,6 +4,7 @@
 use crate::bench::CASES;
 use crate::families::FAMILIES;
 use crate::jobs::{call, Job, Report};
+use crate::limits::most_of_all;
 use crate::mutants::Rules;
 use crate::refusals::refusals;
 use crate::telling::{tellings, INDEX_HEAD};
@@ -31,17 +32,19 @@ const HEAD: &str = "\
 fn problems() -> Vec<Stored> {
     let mut files = Vec::new();
     let mut index = HEAD.to_string();
+    let mut add = |name: String, what: &str, bytes: Vec<u8>| {
+        let path = format!("{name}.problem");
+        index += &line(&path, what, &bytes);
+        files.push(Stored { path, bytes });
+    };
     for case in &CASES {
-        let path = format!("{}.problem", case.name);
-        index += &line(&path, case.line, &case.file());
-        files.push(Stored { path, bytes: case.file() });
+        add(case.name.to_string(), case.line, case.file());
     }
+    let most = "the largest n, the largest m and the most lemmas, and none of them inductive";
+    add("M".to_string(), most, most_of_all().to_bytes());
     for family in &FAMILIES {
         for &size in family.sizes {
-            let path = format!("{}-{size}.problem", family.name);
-            let bytes = (family.make)(size).to_bytes();
-            index += &line(&path, family.line, &bytes);
-            files.push(Stored { path, bytes });
+            add(format!("{}-{size}", family.name), family.line, (family.make)(size).to_bytes());
         }
     }
     files.push(Stored { path: "INDEX.txt".to_string(), bytes: index.into_bytes() });

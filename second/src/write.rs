@@ -1,4 +1,5 @@
-//! Writes a problem as a file, whatever it holds: the reader may refuse the result.
+//! Writes a problem as a file, whatever it holds (the reader may refuse the result), and splits a file
+//! into its records.
 
 use crate::file::{Problem, BAD, END, HEAD, INIT, LEMMA, TR};
 
@@ -22,4 +23,17 @@ impl Problem {
         bytes.extend(record(END, &[]));
         bytes
     }
+}
+
+/// The records as their lengths say, the last one perhaps cut.
+pub fn split(file: &[u8]) -> Vec<Vec<u8>> {
+    let mut records = Vec::new();
+    let mut rest = file;
+    while !rest.is_empty() {
+        let length = if rest.len() < 4 { 0 } else { u16::from_le_bytes([rest[0], rest[1]]) as usize };
+        let (record, others) = rest.split_at(rest.len().min(4 + length));
+        records.push(record.to_vec());
+        rest = others;
+    }
+    records
 }

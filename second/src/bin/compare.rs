@@ -16,7 +16,7 @@ fn main() -> ExitCode {
     if run(subject().as_ref(), calls as usize, seed) {
         return ExitCode::FAILURE;
     }
-    if cfg!(not(library)) && !run(&Second(Rules::OneAsksDropped), calls as usize, seed) {
+    if cfg!(not(library)) && !run(&Second(Rules::DroppedWithinRound), calls as usize, seed) {
         println!("the mutant was not found");
         return ExitCode::FAILURE;
     }
