@@ -157,7 +157,7 @@ impl Record<'_> {
         let Some(row) = self.kind.checked_sub(1).and_then(|at| TABLE.get(at)) else {
             return true;
         };
-        self.length % 2 == 0 && (row.shortest..=row.longest).contains(&self.length)
+        self.length.is_multiple_of(2) && (row.shortest..=row.longest).contains(&self.length)
     }
 
     fn count_is_allowed(&self, problem: &Problem) -> bool {

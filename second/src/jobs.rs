@@ -54,12 +54,7 @@ pub fn call(job: Job, file: &[u8], budget: u32, lent: &mut [u8], rules: Rules) -
 pub fn check(file: &[u8], rules: Rules) -> Report {
     match read(file, rules) {
         Err(refusal) => refused(refusal),
-        Ok(problem) => Report {
-            n: problem.n as u64,
-            m: problem.m as u64,
-            k: problem.k() as u64,
-            ..Report::default()
-        },
+        Ok(problem) => Report { n: problem.n as u64, m: problem.m as u64, k: problem.k() as u64, ..Report::default() },
     }
 }
 

@@ -1,4 +1,4 @@
-//! Files at the limits of the format, each with the budgets that keep a call on it short.
+//! Files at the limits of the format, and the real ones, each with a budget that keeps a call on it short.
 
 use crate::file::Problem;
 use crate::jobs::Job;
@@ -63,7 +63,10 @@ pub fn most_bytes() -> Problem {
     most
 }
 
-/// The fixed files at the limits.
+const LOADER: &[u8] = include_bytes!("../../cases/loader.problem");
+const LEDGER: &[u8] = include_bytes!("../../cases/ledger.problem");
+
+/// The fixed files: those at the limits, and the two real ones.
 pub fn fixed() -> Vec<Source> {
     let with = |problem: Problem, cap: u32, jobs| Source { file: problem.to_bytes(), cap, jobs };
     let bytes = with(most_bytes(), 6, &Job::ALL);
@@ -81,6 +84,8 @@ pub fn fixed() -> Vec<Source> {
         with(too_many, 0, &Job::ALL),
         bytes,
         longer,
+        Source { file: LOADER.to_vec(), cap: 200, jobs: &Job::ALL },
+        Source { file: LEDGER.to_vec(), cap: 200, jobs: &Job::ALL },
     ]
 }
 

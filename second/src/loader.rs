@@ -106,10 +106,8 @@ fn ledger(circuit: &mut Circuit, latches: &Latches, begins: i16, applies: i16) {
 }
 
 fn remember(circuit: &mut Circuit, latches: &Latches, done: i16) {
-    let mut bad = vec![
-        circuit.and(&[done, -latches.good, -latches.alarm]),
-        circuit.and(&[latches.applied, latches.alarm]),
-    ];
+    let mut bad =
+        vec![circuit.and(&[done, -latches.good, -latches.alarm]), circuit.and(&[latches.applied, latches.alarm])];
     for (&received, &used) in latches.received.iter().zip(&latches.used) {
         let other = circuit.differ(received, used);
         bad.push(circuit.and(&[latches.applied, other]));

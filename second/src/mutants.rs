@@ -74,10 +74,7 @@ pub const MUTANTS: [(Rules, &str); 56] = [
     (Rules::LastOpenClause, "a decision takes the last clause without a true literal"),
     (Rules::LastUnsetLiteral, "a decision takes the last unset literal of its clause"),
     (Rules::FalseTriedFirst, "a decision tries false before true"),
-    (
-        Rules::UnitByLiterals,
-        "a clause whose unset places hold one literal twice is set without a decision",
-    ),
+    (Rules::UnitByLiterals, "a clause whose unset places hold one literal twice is set without a decision"),
     (Rules::UnitsCounted, "setting the one unset literal of a clause is counted"),
     (Rules::NoUnits, "no literal is set without a decision"),
     (Rules::ClosedTryKept, "what a closed try has set stays set for the second try"),
@@ -103,10 +100,7 @@ pub const MUTANTS: [(Rules, &str); 56] = [
     (Rules::LargestSafetyNotAsked, "the safety of the largest set is not asked"),
     (Rules::OneFromTheTop, "one set tries positions from the last down"),
     (Rules::OneAsksDropped, "one set tries positions that are no longer in the set"),
-    (
-        Rules::OneSafetyBeforeRounds,
-        "one set asks safety before Rounds too, and skips Rounds if it fails",
-    ),
+    (Rules::OneSafetyBeforeRounds, "one set asks safety before Rounds too, and skips Rounds if it fails"),
     (Rules::OneBySingles, "one set takes a position out only if all others stay"),
     (Rules::NodeStepsNoEarlyStop, "a node asks all its steps, past the first satisfiable"),
     (Rules::NodeStepsFromTheTop, "a node asks its steps from the last position down"),

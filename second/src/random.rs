@@ -134,11 +134,7 @@ fn clauses(random: &mut Random, variables: usize, count: usize, literals: usize)
     let mut result: Vec<Clause> = Vec::new();
     for _ in 0..count {
         let equal = !result.is_empty() && random.once_in(10);
-        let next = if equal {
-            result[random.below(result.len())].clone()
-        } else {
-            clause(random, variables, literals)
-        };
+        let next = if equal { result[random.below(result.len())].clone() } else { clause(random, variables, literals) };
         result.push(next);
     }
     result

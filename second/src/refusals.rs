@@ -1,7 +1,7 @@
 //! Files that pin each file refusal with its place, and the order of any two that one file can meet.
 
 use crate::bench::case;
-use crate::file::{BAD, END, HEAD, INIT, LEMMA, Problem, TR};
+use crate::file::{Problem, BAD, END, HEAD, INIT, LEMMA, TR};
 use crate::write::record;
 
 /// A refused file: its name, what it is, and the number and place of its refusal.
@@ -15,7 +15,7 @@ pub struct Refused {
 
 /// The whole collection: one fault alone, two in one record, two in two records, and long files.
 pub fn refusals() -> Vec<Refused> {
-    [alone(), in_one_record(), in_two_records(), over_size()].into_iter().flatten().collect()
+    [alone(), in_one_record(), after_a_bad_head(), after_a_bad_clause(), over_size()].into_iter().flatten().collect()
 }
 
 fn refused(name: &'static str, line: &'static str, parts: &[&[u8]], number: u64, place: u64) -> Refused {
@@ -89,11 +89,23 @@ fn in_one_record() -> Vec<Refused> {
         refused("3-before-2", "kind 7 with a body past the end", &[&head(), &odd(7, 2, &[])], 3, 8),
         refused("3-before-7", "Init after 4,096 Tr clauses", &[&clauses, &record(INIT, &[]), &end()], 3, 16_392),
         refused("3-before-5", "a second kind 1, with n 0", &[&head(), &record(HEAD, &[0, 0]), &end()], 3, 8),
-        refused("3-before-6", "Init after Tr, with literal 0", &[&head(), &record(TR, &[]), &record(INIT, &[0])], 3, 12),
+        refused(
+            "3-before-6",
+            "Init after Tr, with literal 0",
+            &[&head(), &record(TR, &[]), &record(INIT, &[0])],
+            3,
+            12,
+        ),
         refused("4-before-2", "a clause of three bytes past the end", &[&head(), &odd(INIT, 3, &[1, 0])], 4, 8),
         refused("4-before-7", "a 129th lemma of one byte", &[&full, &odd(LEMMA, 1, &[1]), &end()], 4, 776),
         refused("4-before-5", "a kind 1 of six bytes with n 0", &[&record(HEAD, &[0, 0, 0]), &end()], 4, 0),
-        refused("4-before-6", "a clause of three bytes with literal 0", &[&head(), &odd(INIT, 3, &[0, 0, 1]), &end()], 4, 8),
+        refused(
+            "4-before-6",
+            "a clause of three bytes with literal 0",
+            &[&head(), &odd(INIT, 3, &[0, 0, 1]), &end()],
+            4,
+            8,
+        ),
         refused("4-before-8", "an end record with a body", &[&head(), &odd(END, 1, &[0])], 4, 8),
         refused("2-before-7", "a 129th lemma past the end", &[&full, &cut], 2, 776),
         refused("2-before-5", "a kind 1 past the end, with n 0", &[&odd(HEAD, 4, &[0, 0])], 2, 0),
@@ -105,21 +117,38 @@ fn in_one_record() -> Vec<Refused> {
     ]
 }
 
-fn in_two_records() -> Vec<Refused> {
-    let zero = record(TR, &[0]);
+/// n or m out of range, then a fault of a later record.
+fn after_a_bad_head() -> Vec<Refused> {
     let none = record(HEAD, &[0, 0]);
+    let many = record(LEMMA, &[]).repeat(Problem::LEMMAS + 1);
+    let large = record(HEAD, &[97, 0]);
     vec![
+        refused("5-then-2", "n 0, then no record", &[&none], 5, 0),
         refused("5-then-3", "n 0, then kind 7", &[&none, &record(7, &[])], 5, 0),
-        refused("5-then-6", "n 97, then literal 98", &[&record(HEAD, &[97, 0]), &record(INIT, &[98]), &end()], 5, 0),
+        refused("5-then-4", "n 0, then a clause of one byte", &[&none, &odd(TR, 1, &[1])], 5, 0),
+        refused("5-then-6", "n 97, then literal 98", &[&large, &record(INIT, &[98]), &end()], 5, 0),
+        refused("5-then-7", "n 0, then 129 lemmas", &[&none, &many, &end()], 5, 0),
         refused("5-then-8", "n 0, then bytes after the end", &[&none, &end(), &[0]], 5, 0),
-        refused("6-then-2", "literal 0, then no record", &[&head(), &zero], 6, 12),
-        refused("6-then-3", "literal 0, then a lower kind", &[&head(), &zero, &record(INIT, &[1]), &end()], 6, 12),
-        refused("6-then-4", "literal 0, then a clause of one byte", &[&head(), &zero, &odd(TR, 1, &[1])], 6, 12),
-        refused("6-then-7", "literal 0, then 129 lemmas", &[&head(), &zero, &full_of_lemmas()[8..], &one_more()], 6, 12),
-        refused("6-then-8", "literal 0, then bytes after the end", &[&head(), &zero, &end(), &[0]], 6, 12),
-        refused("7-then-3", "129 lemmas, then a lower kind", &[&full_of_lemmas(), &one_more(), &record(INIT, &[1])], 7, 776),
-        refused("7-then-8", "129 lemmas, then bytes after the end", &[&full_of_lemmas(), &one_more(), &end(), &[0]], 7, 776),
-        refused("4-then-3", "a clause of one byte, then a lower kind", &[&head(), &odd(TR, 1, &[1]), &record(INIT, &[1])], 4, 8),
+    ]
+}
+
+/// A fault of a clause, then a fault of a later record.
+fn after_a_bad_clause() -> Vec<Refused> {
+    let zero = [head(), record(TR, &[0])].concat();
+    let full = [full_of_lemmas(), one_more()].concat();
+    let many = one_more().repeat(Problem::LEMMAS + 1);
+    let lower = record(INIT, &[1]);
+    let short = odd(TR, 1, &[1]);
+    vec![
+        refused("6-then-2", "literal 0, then no record", &[&zero], 6, 12),
+        refused("6-then-3", "literal 0, then a lower kind", &[&zero, &lower, &end()], 6, 12),
+        refused("6-then-4", "literal 0, then a clause of one byte", &[&zero, &short], 6, 12),
+        refused("6-then-7", "literal 0, then 129 lemmas", &[&zero, &many], 6, 12),
+        refused("6-then-8", "literal 0, then bytes after the end", &[&zero, &end(), &[0]], 6, 12),
+        refused("7-then-2", "129 lemmas, then no record", &[&full], 7, 776),
+        refused("7-then-3", "129 lemmas, then a lower kind", &[&full, &lower], 7, 776),
+        refused("7-then-8", "129 lemmas, then bytes after the end", &[&full, &end(), &[0]], 7, 776),
+        refused("4-then-3", "a clause of one byte, then a lower kind", &[&head(), &short, &lower], 4, 8),
     ]
 }
 

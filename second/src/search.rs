@@ -155,7 +155,7 @@ impl Search<'_> {
 
     fn first_unset(&self, clause: &[i16], setting: &Setting) -> i16 {
         let mut unset = clause.iter().copied().filter(|&literal| setting.value(literal) == 0);
-        let found = if self.rules.breaks(Rules::LastUnsetLiteral) { unset.last() } else { unset.next() };
+        let found = if self.rules.breaks(Rules::LastUnsetLiteral) { unset.next_back() } else { unset.next() };
         found.expect("an open clause has an unset literal")
     }
 

@@ -5,18 +5,19 @@ use crate::subject::Call;
 use crate::write::split;
 use std::rc::Rc;
 
-/// So many smaller calls are tried in all; long files would take too long otherwise.
-const TRIES: usize = 20_000;
+/// The work of one shrinking: a try costs 1, and 1 more for every 500 bytes of its file.
+const WORK: usize = 50_000;
 
-/// The smallest call found from this one for which the test still holds.
+/// The smallest call found from this one, within the work allowed, for which the test still holds.
 pub fn shrink(call: Call, shows: &dyn Fn(&Call) -> bool) -> Call {
     let mut call = call;
-    let mut left = TRIES;
+    let mut work = 0;
     loop {
-        let smaller = smaller_calls(&call).take(left).find(|smaller| {
-            left -= 1;
-            shows(smaller)
-        });
+        let allowed = |smaller: &Call| {
+            work += 1 + smaller.file.len() / 500;
+            work <= WORK
+        };
+        let smaller = smaller_calls(&call).take_while(allowed).find(|smaller| shows(smaller));
         match smaller {
             Some(smaller) => call = smaller,
             None => return call,
@@ -62,7 +63,7 @@ fn smaller_lists<T: Clone>(list: Vec<T>) -> impl Iterator<Item = Vec<T>> {
 
 /// Each problem with a run of clauses, a variable or a run of literals less.
 fn smaller_problems(problem: Problem) -> impl Iterator<Item = Problem> {
-    let states = if problem.n > 1 { 1..=problem.n } else { 1..=0 };
+    let states = (1..=problem.n).filter(|_| problem.n > 1).collect::<Vec<usize>>().into_iter();
     let helpers = 2 * problem.n + 1..=problem.variables();
     let whole = Rc::new(problem);
     let (a, b, c, d) = (whole.clone(), whole.clone(), whole.clone(), whole);

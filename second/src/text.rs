@@ -9,8 +9,13 @@ pub const ROW_BYTES: usize = 65_536;
 
 /// What the listing program prints for a file.
 pub fn listing_text(file: &[u8]) -> String {
-    let mut lent = vec![0; ROW_BYTES];
-    let report = list(file, BUDGET, &mut lent, Rules::TRUE);
+    text_within(file, BUDGET, ROW_BYTES)
+}
+
+/// The same text for another budget and another length of the space for rows.
+pub fn text_within(file: &[u8], budget: u32, space: usize) -> String {
+    let mut lent = vec![0; space];
+    let report = list(file, budget, &mut lent, Rules::TRUE);
     let word = match report.number {
         0 => "complete",
         10 => "spent",

@@ -3,7 +3,7 @@
 use second::bench::case;
 use second::jobs::{call, Job, Report};
 use second::mutants::Rules;
-use second::text::listing_text;
+use second::text::{listing_text, text_within};
 
 const LARGEST_BUDGET: u32 = u32::MAX;
 const UNTOUCHED: u8 = 0xA5;
@@ -144,6 +144,9 @@ fn q_counts_as_the_outside_program_does() {
 
 #[test]
 fn the_text_names_each_ending() {
+    assert_eq!(text_within(&case("B").file(), 3, 6), "complete 2 3\n100\n011\n");
+    assert_eq!(text_within(&case("B").file(), 2, 6), "spent 1 2\n100\n");
+    assert_eq!(text_within(&case("B").file(), 3, 5), "room 1 3\n100\n");
     assert_eq!(listing_text(&case("G").file()), "none 0 0\n");
     assert_eq!(listing_text(&case("H").file()), "none 0 1\n");
     assert_eq!(listing_text(&[]), "bad 2 0\n");

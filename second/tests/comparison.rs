@@ -1,18 +1,25 @@
 //! The comparison in the gate: with the library if it was linked, with this program itself, and with
 //! every mutant, which it must find and show on a small file.
 
-use second::compare::compare;
+use second::compare::{compare, Found};
 use second::mutants::{Rules, MUTANTS};
-use second::subject::Second;
+use second::subject::{Second, Subject};
+use std::io::{self, Write};
 
 const CALLS: usize = 100_000;
 const SEED: u64 = 20_261_115;
 
+/// Compares and prints the seed and what was found, past the capture of test output.
+fn compared(other: &dyn Subject) -> Found {
+    let found = compare(&Second(Rules::TRUE), other, CALLS, SEED);
+    let text = format!("comparison with {}, seed {SEED}: {found}\n", other.name());
+    io::stderr().write_all(text.as_bytes()).expect("the gate reads this");
+    found
+}
+
 #[test]
 fn no_call_tells_this_program_from_itself() {
-    println!("seed {SEED}");
-    let found = compare(&Second(Rules::TRUE), &Second(Rules::TRUE), CALLS, SEED);
-    println!("{found}");
+    let found = compared(&Second(Rules::TRUE));
     assert!(found.calls >= CALLS && found.difference.is_none(), "{found}");
     assert!(found.numbers.iter().all(|&times| times > 0), "every number is met: {found}");
 }
@@ -20,9 +27,7 @@ fn no_call_tells_this_program_from_itself() {
 #[cfg(library)]
 #[test]
 fn no_call_tells_the_library_from_this_program() {
-    println!("seed {SEED}");
-    let found = compare(&Second(Rules::TRUE), &second::library::Library, CALLS, SEED);
-    println!("{found}");
+    let found = compared(&second::library::Library);
     assert!(found.calls >= CALLS && found.difference.is_none(), "{found}");
 }
 

@@ -41,7 +41,7 @@ fn every_cut_of_l_is_refused_where_the_cut_record_starts() {
     let file = case("L").file();
     let starts = [0, 8, 14, 22, 30, 36, 42];
     for length in 0..file.len() {
-        let start = starts.into_iter().filter(|&start| start <= length).last();
+        let start = starts.into_iter().rfind(|&start| start <= length);
         refused(&file[..length], 2, start.expect("the first record starts at 0"));
     }
 }

@@ -69,3 +69,11 @@ fn the_shortcuts_of_document_01_are_among_the_mutants() {
     told(Rules::OneBySingles, "J", Job::One);
     told(Rules::AgainstItselfAlone, "A", Job::Largest);
 }
+
+#[test]
+fn the_readme_names_every_mutant() {
+    let readme = include_str!("../README.md");
+    for (mutant, _) in MUTANTS {
+        assert!(readme.contains(&format!("`{}`", mutant.name())), "{}", mutant.name());
+    }
+}

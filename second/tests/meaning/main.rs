@@ -9,7 +9,7 @@ use second::random::{problem, Random, SMALL};
 use walk::Walk;
 
 const FILES: usize = 20_000;
-const SEED: u64 = 2026_11_15;
+const SEED: u64 = 20_261_115;
 const UNTOUCHED: u8 = 0xA5;
 
 fn files() -> impl Iterator<Item = Problem> {

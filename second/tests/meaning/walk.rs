@@ -81,8 +81,7 @@ impl Walk {
 
     /// The one inductive set that contains all inductive sets.
     pub fn largest(&self) -> Vec<bool> {
-        let inductive: Vec<Vec<bool>> =
-            self.subsets().into_iter().filter(|set| self.inductive(set)).collect();
+        let inductive: Vec<Vec<bool>> = self.subsets().into_iter().filter(|set| self.inductive(set)).collect();
         let mut largest = inductive.iter().filter(|set| inductive.iter().all(|part| is_part(part, set)));
         let found = largest.next().expect("an inductive set contains all inductive sets").clone();
         assert!(largest.next().is_none(), "there is only one");
