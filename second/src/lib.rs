@@ -1,0 +1,30 @@
+//! The subset trimmer a second time, written from document 01 alone and as plainly as it.
+//! The four jobs are in `jobs`, the listing program's text in `text`, the broken rules in `mutants`.
+
+pub mod bench;
+pub mod circuit;
+pub mod compare;
+pub mod damage;
+pub mod families;
+pub mod file;
+pub mod find;
+pub mod jobs;
+#[cfg(library)]
+pub mod library;
+pub mod limits;
+pub mod listing;
+pub mod loader;
+pub mod mutants;
+pub mod notation;
+pub mod questions;
+pub mod random;
+pub mod refusals;
+pub mod rules;
+pub mod search;
+pub mod sets;
+pub mod shrink;
+pub mod stored;
+pub mod subject;
+pub mod telling;
+pub mod text;
+pub mod write;
