@@ -1,0 +1,359 @@
+-- Where the clauses of each kind stand, as far as a file is read: one more record keeps every place right.
+use Prim.Native.Nat.{ℕ, zero, suc, _+_, _/_, _≤_, _<_}
+use native.Mathlib.Numerals.{add-one}
+use native.Mathlib.Omega.{arith}
+use mathlib.Core.Path.{_≡_, refl, sym, ap, subst, subst⁻¹, _∙_}
+use mathlib.Core.Logic.{_⊎_, inl, inr}
+use mathlib.Core.Bool.{Bool, true, false, not, _&&_, _||_, cond, true≢false}
+use mathlib.Core.List.{List, [], _∷_, _++_, map, append-nil}
+use lib.ListN.{length}
+use lib.Dec.{ltb, leb, eqb}
+use borrow.Author.Tests.{ltb-true, ltb-false, leb-false, eqb-true, eqb-false, ne-eqb}
+use Rattle.meaning.specs.Clauses.{Clause}
+use Rattle.meaning.specs.File.{Reader, Span, Kind, Class, past, at-start, span-at, kind-at, kind-row, kind-table, no-kind, row-at, same-kind, body-at, body-length, two-at, body-short, too-many, counts-wrong, is-clause, one-if-clause, clauses-of, of-kind, keep-if, clause-of, n-most, m-most, clauses-most}
+use Rattle.laws.specs.Accepted.{Kept, KindKept, kind-kept}
+use Rattle.format.specs.Section.{next-record, clause-at, section, Inside}
+use Rattle.problem.specs.declared.sections.Section.{Section}
+use Rattle.problem.specs.declared.sections.Sections.{Sections}
+use Rattle.problem.specs.Records.{Sane, section-past, sections-past, no-section, no-sections}
+
+-- ---- one record more at the end of a section
+
+-- where the record after so many starts
+unfoldable pub after : List ℕ → ℕ → ℕ → ℕ
+after file at zero = at
+after file at (suc count) = after file (next-record file at) count
+
+after-more : (file : List ℕ) (at count : ℕ) → after file at (suc count) ≡ next-record file (after file at count)
+unfolding after
+after-more file at zero = refl
+after-more file at (suc count) = after-more file (next-record file at) count
+
+section-more : (file : List ℕ) (at count : ℕ)
+    → section file at (suc count) ≡ section file at count ++ (clause-at file (after file at count) ∷ [])
+unfolding after section
+section-more file at zero = refl
+section-more file at (suc count) =
+    ap (λ (cs : List Clause). clause-at file at ∷ cs) (section-more file (next-record file at) count)
+
+inside-more : (file : List ℕ) (at count : ℕ) → Inside file at count → next-record file (after file at count) ≤ length file
+    → Inside file at (suc count)
+unfolding after
+inside-more file at zero i h = (h, tt)
+inside-more file at (suc count) i h = (i .0, inside-more file (next-record file at) count (i .1) h)
+
+pub length-section : (file : List ℕ) (at count : ℕ) → length (section file at count) ≡ count
+unfolding section
+length-section file at zero = refl
+length-section file at (suc count) = ap suc (length-section file (next-record file at) count)
+
+-- the clauses of a kind, with one record more
+clauses-more : (kind : ℕ) (file : List ℕ) (ss : List Span) (s : Span)
+    → clauses-of kind file (ss ++ (s ∷ []))
+    ≡ clauses-of kind file ss ++ map (clause-of file) (keep-if (eqb (s .kind) kind) s [])
+unfolding clauses-of of-kind keep-if
+clauses-more kind file [] s = refl
+clauses-more kind file (t ∷ ss) s = go (eqb (t .kind) kind) (clauses-more kind file ss s)
+  where
+    more : List Clause
+    more = map (clause-of file) (keep-if (eqb (s .kind) kind) s [])
+
+    go : (b : Bool) → clauses-of kind file (ss ++ (s ∷ [])) ≡ clauses-of kind file ss ++ more
+        → map (clause-of file) (keep-if b t (of-kind kind (ss ++ (s ∷ []))))
+        ≡ map (clause-of file) (keep-if b t (of-kind kind ss)) ++ more
+    go true e = ap (λ (cs : List Clause). clause-of file t ∷ cs) e
+    go false e = e
+
+-- ---- a section, as far as the file is read
+
+-- The records of kind q among those done stand from s .at on, one after another, and end where the next record starts, unless the kind
+-- before is a later one; of a kind later than the one before there are none
+pub record Held (file : List ℕ) (w : Reader) (done : List Span) (q : ℕ) (s : Section) : Type 0 where
+  pub clauses : clauses-of q file done ≡ section file (s .at) (s .count)
+  pub inside : Inside file (s .at) (s .count)
+  pub ends : w .before ≤ q → after file (s .at) (s .count) ≡ w .at
+  pub none-yet : w .before < q → s .count ≡ 0
+  pub same : w .before ≡ q → s .count ≡ w .of-kind
+  pub few : s .count ≤ kind-row q .most
+
+pub held-start : (file : List ℕ) (q : ℕ) → Held file at-start [] q no-section
+unfolding no-section at-start clauses-of of-kind section after
+held-start file q =
+    record {
+      clauses = refl;
+      inside = tt;
+      ends = λ h. refl;
+      none-yet = λ h. refl;
+      same = λ h. refl;
+      few = omega arith;
+    }
+
+-- what is known of a record that is not refused
+module _ (file : List ℕ) (w : Reader) (k : Kept file w) where
+  -- its kind, in its range and not lower than the one before
+  kind-in : KindKept (w .before) (kind-at file w)
+  kind-in = kind-kept (w .before) (kind-at file w) (k .kind)
+
+  -- it ends inside the file
+  pub past-inside : past file w .at ≤ length file
+  unfolding past body-short
+  past-inside = ltb-false (length file) (body-at w + body-length file w) (k .body)
+
+  -- the next one starts further on
+  pub past-further : w .at < past file w .at
+  unfolding past body-at
+  past-further = omega arith
+
+  -- there may be one more of its kind
+  same-below : same-kind file w < row-at file w .most
+  unfolding too-many
+  same-below = go (leb (row-at file w .most) (same-kind file w)) refl (k .many)
+    where
+      go : (b : Bool) → leb (row-at file w .most) (same-kind file w) ≡ b
+          → (b || (is-clause (row-at file w .class) && leb clauses-most (w .clauses))) ≡ false
+          → same-kind file w < row-at file w .most
+      go true t h = absurd (true≢false h)
+      go false t h = leb-false (row-at file w .most) (same-kind file w) t
+
+  -- and, if it is a clause, one more clause
+  clauses-below : w .clauses ≤ clauses-most → w .clauses + one-if-clause (row-at file w .class) ≤ clauses-most
+  unfolding too-many one-if-clause
+  clauses-below few =
+      go (leb (row-at file w .most) (same-kind file w)) (is-clause (row-at file w .class)) (leb clauses-most (w .clauses)) refl (k .many)
+    where
+      go : (b clause full : Bool) → leb clauses-most (w .clauses) ≡ full → (b || (clause && full)) ≡ false
+          → w .clauses + cond clause 1 0 ≤ clauses-most
+      go true clause full t h = absurd (true≢false h)
+      go false true true t h = absurd (true≢false h)
+      go false true false t h = omega (arith, leb-false clauses-most (w .clauses) t)
+      go false false full t h = omega arith
+
+  -- n and m of the first record are in their range
+  counts-below : w .n ≤ n-most → w .m ≤ m-most → (past file w .n ≤ n-most) × (past file w .m ≤ m-most)
+  unfolding past counts-wrong
+  counts-below n-in m-in =
+      go (eqb (kind-at file w) 1) (ltb n 1) (ltb n-most n) (ltb m-most m) refl refl (k .counts)
+    where
+      n : ℕ
+      n = two-at file (body-at w)
+
+      m : ℕ
+      m = two-at file (body-at w + 2)
+
+      go : (one none high wide : Bool) → ltb n-most n ≡ high → ltb m-most m ≡ wide → (one && (none || high || wide)) ≡ false
+          → (cond one n (w .n) ≤ n-most) × (cond one m (w .m) ≤ m-most)
+      go true true high wide t u h = absurd (true≢false h)
+      go true false true wide t u h = absurd (true≢false h)
+      go true false false true t u h = absurd (true≢false h)
+      go true false false false t u h = (ltb-false n-most n t, ltb-false m-most m u)
+      go false none high wide t u h = (n-in, m-in)
+
+  -- a section after the record
+  module _ {done : List Span} {q : ℕ} {s : Section} (h : Held file w done q s) where
+    -- of its own kind as many as the reader counted
+    count-is : kind-at file w ≡ q → s .count ≡ same-kind file w
+    unfolding same-kind
+    count-is e = go (eqb (kind-at file w) (w .before)) refl
+      where
+        go : (b : Bool) → eqb (kind-at file w) (w .before) ≡ b → s .count ≡ cond b (w .of-kind) 0
+        go true t = h .same (sym (eqb-true (kind-at file w) (w .before) t) ∙ e)
+        go false t = h .none-yet (omega (arith, kind-in .rises, eqb-false (kind-at file w) (w .before) t, e))
+
+    -- the clauses of another kind stay as they are
+    others : eqb (kind-at file w) q ≡ false
+        → clauses-of q file (done ++ (span-at file w ∷ [])) ≡ clauses-of q file done
+    unfolding keep-if span-at
+    others e = clauses-more q file done (span-at file w) ∙ rw e (append-nil (clauses-of q file done))
+
+    -- and of its own there is one more
+    one-more : eqb (kind-at file w) q ≡ true
+        → clauses-of q file (done ++ (span-at file w ∷ []))
+        ≡ section file (s .at) (s .count) ++ (clause-at file (w .at) ∷ [])
+    unfolding keep-if span-at clause-of clause-at body-at body-length
+    one-more e =
+        clauses-more q file done (span-at file w) ∙
+        rw e (ap (λ (cs : List Clause). cs ++ (clause-at file (w .at) ∷ [])) (h .clauses))
+
+    own-held : eqb (kind-at file w) q ≡ true
+        → Held file (past file w) (done ++ (span-at file w ∷ [])) q (record { at = s .at; count = s .count + 1 })
+    unfolding past next-record body-at body-length row-at
+    own-held e =
+        let is-q = eqb-true (kind-at file w) q e in
+        let here = h .ends (omega (arith, kind-in .rises, is-q)) in
+        record {
+          clauses =
+              one-more e ∙
+              ap (λ (a : ℕ). section file (s .at) (s .count) ++ (clause-at file a ∷ [])) (sym here) ∙
+              sym (section-more file (s .at) (s .count)) ∙ ap (section file (s .at)) (sym (add-one (s .count)));
+          inside =
+              subst⁻¹ (Inside file (s .at)) (add-one (s .count))
+              (inside-more file (s .at) (s .count) (h .inside)
+              (subst⁻¹ (λ (a : ℕ). next-record file a ≤ length file) here past-inside));
+          ends =
+              λ least.
+              ap (after file (s .at)) (add-one (s .count)) ∙ after-more file (s .at) (s .count) ∙ ap (next-record file) here;
+          none-yet = λ less. absurd (omega (arith, is-q));
+          same = λ eq. ap (λ (n : ℕ). n + 1) (count-is is-q);
+          few =
+              omega (arith, subst (λ (kind : ℕ). same-kind file w < kind-row kind .most) is-q same-below, count-is is-q);
+        }
+
+    pub held-past : Held file (past file w) (done ++ (span-at file w ∷ [])) q
+        (section-past q (kind-at file w) (past file w .at) s)
+    unfolding section-past section after past
+    held-past = go (ltb (kind-at file w) q) (eqb (kind-at file w) q) refl refl
+      where
+        go : (less own : Bool) → ltb (kind-at file w) q ≡ less → eqb (kind-at file w) q ≡ own
+            → Held file (past file w) (done ++ (span-at file w ∷ [])) q
+            (cond less (record { at = past file w .at; count = 0 }) (cond own (record { at = s .at; count = s .count + 1 }) s))
+        go true own t u =
+            let less = ltb-true (kind-at file w) q t in
+            record {
+              clauses =
+                  others (ne-eqb (kind-at file w) q (λ e. omega (arith, less, e))) ∙ h .clauses ∙
+                  ap (section file (s .at)) (h .none-yet (omega (arith, less, kind-in .rises)));
+              inside = tt;
+              ends = λ least. refl;
+              none-yet = λ later. refl;
+              same = λ e. absurd (omega (arith, less, e));
+              few = omega arith;
+            }
+        go false true t u = own-held u
+        go false false t u =
+            let more = ltb-false (kind-at file w) q t in
+            let not-q = eqb-false (kind-at file w) q u in
+            record {
+              clauses = others u ∙ h .clauses;
+              inside = h .inside;
+              ends = λ least. absurd (omega (arith, more, not-q, least));
+              none-yet = λ later. absurd (omega (arith, more, later));
+              same = λ e. absurd (not-q e);
+              few = h .few;
+            }
+
+    -- its count goes up where the kind is its own
+    pub count-past : section-past q (kind-at file w) (past file w .at) s .count ≡ s .count + cond (eqb (kind-at file w) q) 1 0
+    unfolding section-past
+    count-past = go (ltb (kind-at file w) q) (eqb (kind-at file w) q) refl refl
+      where
+        go : (less own : Bool) → ltb (kind-at file w) q ≡ less → eqb (kind-at file w) q ≡ own
+            → _≡_ {A = ℕ}
+            (cond less (record { at = past file w .at; count = 0 }) (cond own (record { at = s .at; count = s .count + 1 }) s) .count)
+            (s .count + cond own 1 0)
+        go true true t u = absurd (omega (arith, ltb-true (kind-at file w) q t, eqb-true (kind-at file w) q u))
+        go true false t u = omega (arith, h .none-yet (omega (arith, ltb-true (kind-at file w) q t, kind-in .rises)))
+        go false true t u = refl
+        go false false t u = omega arith
+
+-- ---- all sections
+
+-- a record is a clause where it is of one of the four kinds
+ones : (kind : ℕ) → kind ≤ 6
+    → one-if-clause (kind-row kind .class)
+    ≡ cond (eqb kind 2) 1 0 + cond (eqb kind 3) 1 0 + cond (eqb kind 4) 1 0 + cond (eqb kind 5) 1 0
+unfolding one-if-clause is-clause kind-row kind-table no-kind
+ones zero h = refl
+ones (suc zero) h = refl
+ones (suc (suc zero)) h = refl
+ones (suc (suc (suc zero))) h = refl
+ones (suc (suc (suc (suc zero)))) h = refl
+ones (suc (suc (suc (suc (suc zero))))) h = refl
+ones (suc (suc (suc (suc (suc (suc zero)))))) h = refl
+ones (suc (suc (suc (suc (suc (suc (suc more))))))) h = absurd (omega arith)
+
+-- no kind has more than all clauses together
+most-in : (kind : ℕ) → kind ≤ 6 → kind-row kind .most ≤ clauses-most
+unfolding kind-row kind-table no-kind
+most-in zero h = omega arith
+most-in (suc zero) h = omega arith
+most-in (suc (suc zero)) h = omega arith
+most-in (suc (suc (suc zero))) h = omega arith
+most-in (suc (suc (suc (suc zero)))) h = omega arith
+most-in (suc (suc (suc (suc (suc zero))))) h = omega arith
+most-in (suc (suc (suc (suc (suc (suc zero)))))) h = omega arith
+most-in (suc (suc (suc (suc (suc (suc (suc more))))))) h = absurd (omega arith)
+
+-- n and m are those of the first record, once it is read
+abbrev pub Counted : List ℕ → Reader → Type 0
+Counted file w =
+    ((w .before ≡ 0) × (w .at ≡ 0)) ⊎ ((1 ≤ w .before) × (w .n ≡ two-at file 4) × (w .m ≡ two-at file 6))
+
+pub record Places (file : List ℕ) (w : Reader) (done : List Span) (s : Sections) : Type 0 where
+  pub init : Held file w done 2 (s .init)
+  pub tr : Held file w done 3 (s .tr)
+  pub bad : Held file w done 4 (s .bad)
+  pub lemmas : Held file w done 5 (s .lemmas)
+  pub total : s .init .count + s .tr .count + s .bad .count + s .lemmas .count ≡ w .clauses
+  pub counted : Counted file w
+  pub sane : Sane file w
+
+pub places-start : (file : List ℕ) → Places file at-start [] no-sections
+unfolding no-sections no-section at-start
+places-start file =
+    record {
+      init = held-start file 2;
+      tr = held-start file 3;
+      bad = held-start file 4;
+      lemmas = held-start file 5;
+      total = refl;
+      counted = inl (refl, refl);
+      sane = record { at = omega arith; of-kind = omega arith; clauses = omega arith; n = omega arith; m = omega arith };
+    }
+
+module _ (file : List ℕ) (w : Reader) (k : Kept file w) where
+  sane-past : Sane file w → Sane file (past file w)
+  unfolding past row-at
+  sane-past s =
+      record {
+        at = past-inside file w k;
+        of-kind = omega (arith, same-below file w k, most-in (kind-at file w) (kind-in file w k .most));
+        clauses = clauses-below file w k (s .clauses);
+        n = counts-below file w k (s .n) (s .m) .0;
+        m = counts-below file w k (s .n) (s .m) .1;
+      }
+
+  counted-past : Counted file w → Counted file (past file w)
+  unfolding past body-at
+  counted-past (inl start) =
+      let one = kind-in file w k .first (start .0) in
+      let at = start .1 in
+      inr (
+        kind-in file w k .least,
+        rw one (ap (λ (a : ℕ). two-at file (a + 4)) at),
+        rw one (ap (λ (a : ℕ). two-at file (a + 4 + 2)) at),
+      )
+  counted-past (inr known) =
+      let other = kind-in file w k .not-again (λ e. omega (arith, known .0, e)) in
+      inr (kind-in file w k .least, rw other (known .1), rw other (known .2))
+
+  total-past : {done : List Span} {s : Sections} → Places file w done s
+      → section-past 2 (kind-at file w) (past file w .at) (s .init) .count
+      + section-past 3 (kind-at file w) (past file w .at) (s .tr) .count
+      + section-past 4 (kind-at file w) (past file w .at) (s .bad) .count
+      + section-past 5 (kind-at file w) (past file w .at) (s .lemmas) .count
+      ≡ past file w .clauses
+  unfolding past row-at
+  total-past p =
+      omega (
+        arith,
+        count-past file w k (p .init),
+        count-past file w k (p .tr),
+        count-past file w k (p .bad),
+        count-past file w k (p .lemmas),
+        ones (kind-at file w) (kind-in file w k .most),
+        p .total,
+      )
+
+  pub places-past : {done : List Span} {s : Sections} → Places file w done s
+      → Places file (past file w) (done ++ (span-at file w ∷ [])) (sections-past (kind-at file w) (past file w .at) s)
+  unfolding sections-past
+  places-past {done} {s} p =
+      record {
+        init = held-past file w k (p .init);
+        tr = held-past file w k (p .tr);
+        bad = held-past file w k (p .bad);
+        lemmas = held-past file w k (p .lemmas);
+        total = total-past p;
+        counted = counted-past (p .counted);
+        sane = sane-past (p .sane);
+      }
