@@ -6,11 +6,11 @@ use mathlib.Core.List.{List, []}
 use Rattle.meaning.specs.Meaning
 use Rattle.meaning.specs.File.{Reading, accepted, rejected, read}
 use Rattle.meaning.specs.Calls
-use Rattle.meaning.specs.Calls.{Outcome, check-call, checked, refusal, on-reading}
+use Rattle.meaning.specs.Calls.{check-call, checked, refusal, on-reading}
 use Rattle.format.specs.declared.Problem.{Problem}
 use Rattle.format.specs.Section.{problem-at}
 use Rattle.problem.specs.declared.Report.{Report}
-use Rattle.problem.specs.Places.{length-section}
+use Rattle.problem.specs.Held.{length-section}
 use Rattle.problem.specs.Answers.{report-of}
 
 -- an accepted file: n, m and k

@@ -2,6 +2,7 @@
 pub mod Offences
 pub mod Records
 pub mod Steps
+pub mod Held
 pub mod Places
 pub mod Reading
 pub mod Answers

@@ -6,7 +6,7 @@ use mathlib.Core.Bool.{Bool, true, false, _||_, cond}
 use mathlib.Core.List.{List, [], _∷_}
 use lib.ListN.{length}
 use lib.Dec.{ltb, leb·suc-suc}
-use borrow.Author.Tests.{lt-ltb, le-ltb, ltb-true, ltb-false}
+use borrow.Author.Tests.{lt-ltb}
 use Rattle.meaning.specs.Clauses.{Literal, any}
 use Rattle.meaning.specs.File.{literals, literal-at, offends, before-offence}
 

@@ -2,21 +2,20 @@
 use Prim.Native.Nat.{ℕ, zero, suc, _+_, _≤_, _<_}
 use native.Mathlib.Omega.{arith}
 use mathlib.Core.Path.{_≡_, refl, sym, ap, subst, subst⁻¹, _∙_}
-use mathlib.Core.Logic.{_⊎_, inl, inr}
+use mathlib.Core.Logic.{inl, inr}
 use mathlib.Core.Bool.{Bool, true, false, cond}
-use mathlib.Core.Option.{Option, none, some}
+use mathlib.Core.Option.{none, some}
 use mathlib.Core.List.{List, [], _∷_, _++_, append-nil}
 use lib.ListN.{length}
-use lib.Dec.{ltb, eqb}
+use lib.Dec.{eqb}
 use borrow.Author.Tests.{lt-ltb, le-ltb, eq-eqb, ne-eqb}
-use Rattle.meaning.specs.Clauses.{Clause}
-use Rattle.meaning.specs.Meaning
-use Rattle.meaning.specs.File.{Reader, Refusal, Span, Walked, refused, records, accepted, rejected, read, walked, walk, at-start, at-end, past, span-at, kind-at, record-rules, first-wrong, and-before, unless-refused, unless-end, reading-of, problem-of, kind-row, kind-table, no-kind, two-at, file-most}
-use Rattle.laws.specs.Accepted.{Kept, kept, accepted-well-formed}
-use Rattle.format.specs.Section.{section, problem-at, Placed}
+use Rattle.meaning.specs.File.{Reader, Refusal, Span, Walked, refused, records, accepted, rejected, read, walked, walk, at-start, at-end, past, span-at, kind-at, record-rules, first-wrong, and-before, unless-refused, unless-end, reading-of, problem-of, kind-row, kind-table, no-kind, file-most}
+use Rattle.laws.specs.Accepted.{kept, accepted-well-formed}
+use Rattle.format.specs.Section.{problem-at, Placed}
 use Rattle.problem.specs.declared.sections.Sections.{Sections}
-use Rattle.problem.specs.Records.{Sane, Few, sections-past, no-sections, problem-from}
-use Rattle.problem.specs.Places.{Held, Counted, Places, places-start, places-past, past-further}
+use Rattle.problem.specs.Records.{Few, sections-past, no-sections, problem-from}
+use Rattle.problem.specs.Held.{past-further}
+use Rattle.problem.specs.Places.{Counted, Places, places-start, places-past}
 
 -- records before the rest of a walk
 unfoldable pub all-before : List Span → Walked → Walked

@@ -1,12 +1,12 @@
 -- What the reader knows between two records, as the definition has it, and where the clauses of each kind stand so far.
-use Prim.Native.Nat.{ℕ, zero, suc, _+_, _≤_, _<_}
+use Prim.Native.Nat.{ℕ, _+_, _≤_}
 use mathlib.Core.Path.{_≡_}
-use mathlib.Core.Bool.{Bool, true, false, cond}
-use mathlib.Core.Option.{Option, none, some}
-use mathlib.Core.List.{List, [], _∷_}
+use mathlib.Core.Bool.{false, cond}
+use mathlib.Core.Option.{none, some}
+use mathlib.Core.List.{List}
 use lib.ListN.{length}
 use lib.Dec.{ltb, eqb}
-use Rattle.meaning.specs.File.{Reader, Refusal, Rule, first-wrong, past, kind-at, body-length, body-at, kind-wrong, length-wrong, row-at, n-most, m-most, clauses-most}
+use Rattle.meaning.specs.File.{Reader, Rule, first-wrong, past, kind-at, body-length, body-at, kind-wrong, length-wrong, row-at, n-most, m-most, clauses-most}
 use Rattle.format.specs.declared.Problem.{Problem}
 use Rattle.problem.specs.declared.rules.Cursor.{Cursor}
 use Rattle.problem.specs.declared.rules.Step.{Step}

@@ -1,21 +1,20 @@
 -- One record against its rules: the refusal of the first that is broken, and what the code's values are in the definition's terms.
-use Prim.Native.Nat.{ℕ, zero, suc, _+_, _-_, _*_, _/_, _%_, _≤_, _<_}
+use Prim.Native.Nat.{ℕ, _+_, _*_, _%_, _≤_, _<_}
 use native.Mathlib.Omega.{arith}
-use mathlib.Core.Path.{_≡_, refl, sym, ap, subst, subst⁻¹, _∙_}
+use mathlib.Core.Path.{_≡_, refl, sym, ap, subst, _∙_}
 use mathlib.Core.Bool.{Bool, true, false, not, _&&_, _||_, cond}
 use mathlib.Core.Option.{Option, none, some}
-use mathlib.Core.List.{List, [], _∷_}
+use mathlib.Core.List.{List}
 use lib.ListN.{length, drop}
 use lib.Dec.{ltb, eqb}
 use borrow.Author.Tests.{ltb-false, lt-ltb, le-ltb}
-use Rattle.meaning.specs.Clauses.{Clause, any}
+use Rattle.meaning.specs.Clauses.{any}
 use Rattle.meaning.specs.File.{Reader, Rule, Refusal, Kind, Class, nothing, state, every, first-wrong, refuse-if, rule-if, record-rules, head-short, kind-wrong, length-wrong, body-short, too-many, counts-wrong, offends, before-offence, body-most, body-literals, offence-at, past, kind-at, kind-row, kind-table, no-kind, row-at, same-kind, body-at, body-length, two-at, literals, literal-count, largest-variable, one-if-clause}
-use Rattle.laws.specs.Basics.{or-left}
-use Rattle.laws.specs.Accepted.{KindKept, kind-kept}
+use Rattle.laws.specs.Accepted.{kind-kept}
 use Rattle.problem.specs.declared.rules.Step.{Step}
 use Rattle.problem.specs.declared.rules.Step.the-variants.{Stop, Past}
 use Rattle.problem.specs.Offences.{any-offends, length-literals}
-use Rattle.problem.specs.Records.{Sane, Headed, Stepped}
+use Rattle.problem.specs.Records.{Headed, Stepped}
 
 -- a refusal's number and place
 abbrev pub refused-by : ℕ → ℕ → Option Refusal

@@ -1,5 +1,5 @@
 -- `check` reports what `read_problem` answers.
-use mathlib.Core.Path.{_≡_, ap, subst, _∙_}
+use mathlib.Core.Path.{_≡_, subst}
 use denote.Ref.{now}
 use Rattle.meaning.specs.File.{read}
 use Rattle.problem.specs.declared.Checked.{Checked}
@@ -8,9 +8,6 @@ use Rattle.problem.specs.Checks.{accepted-report, refused-report}
 use borrow.Author.Needs.{needs}
 use Rattle.problem.proofs.check.Statement.{statement}
 use Rattle.problem.proofs.check.Tie as tie
-use Rattle.problem.proofs.check.Reads as reads
-use Rattle.problem.proofs.check.Lts as lts
-use Rattle.problem.proofs.read_problem.Reads as read-problem-reads
 
 read-problem-requires : tie.Need-read-problem-requires
 read-problem-requires c κs = search needs

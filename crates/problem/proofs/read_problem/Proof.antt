@@ -1,8 +1,8 @@
 -- `read_problem` goes from record to record. The invariant: what is read so far and the rest of the walk make the whole, each section's place
 -- is right (`Reached`), and the record before was not the last. The measure is what is left of the file.
-use Prim.Native.Nat.{_-_, _<_}
+use Prim.Native.Nat.{_-_}
 use native.Mathlib.Omega.{arith}
-use mathlib.Core.Path.{_≡_, refl, sym, ap, subst, subst⁻¹, _∙_}
+use mathlib.Core.Path.{_≡_, sym, ap, subst, subst⁻¹}
 use lib.ListN.{length}
 use denote.Ref.{now}
 use borrow.Author.Needs.{needs}
@@ -12,9 +12,8 @@ use Rattle.laws.specs.Accepted.{kept}
 use Rattle.format.specs.declared.Problem.{Problem}
 use Rattle.format.specs.Section.{problem-at, Placed}
 use Rattle.problem.specs.declared.rules.Step.the-variants.{Past}
-use Rattle.problem.specs.declared.sections.Sections.{Sections}
-use Rattle.problem.specs.Records.{reader-of, Stepped, no-sections}
-use Rattle.problem.specs.Places.{past-further}
+use Rattle.problem.specs.Records.{reader-of, Stepped}
+use Rattle.problem.specs.Held.{past-further}
 use Rattle.problem.specs.Reading.{Reached, reached-start, too-long, stops, longer, goes-on, ends, few-so-far}
 use Rattle.problem.proofs.read_problem.Statement.{statement}
 use Rattle.problem.proofs.read_problem.Tie as tie

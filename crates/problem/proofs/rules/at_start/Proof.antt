@@ -1,10 +1,8 @@
 -- `at_start` is the definition's start.
-use mathlib.Core.Path.{_≡_, refl, sym, ap, _∙_}
+use mathlib.Core.Path.{refl}
 use Rattle.meaning.specs.File
 use Rattle.problem.proofs.rules.at_start.Statement.{statement}
 use Rattle.problem.proofs.rules.at_start.Tie as tie
-use Rattle.problem.proofs.rules.at_start.Reads as reads
-use Rattle.problem.proofs.rules.at_start.Lts as lts
 
 returns : tie.Need-returns
 unfolding File.at-start

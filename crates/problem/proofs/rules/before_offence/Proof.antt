@@ -1,7 +1,7 @@
 -- `before_offence` goes from literal to literal. The invariant: as many are passed as `i` says, and what is left adds to them.
 use Prim.Native.Nat.{ℕ, _+_, _-_, _*_, _≤_}
 use native.Mathlib.Omega.{arith}
-use mathlib.Core.Path.{_≡_, refl, sym, ap, _∙_}
+use mathlib.Core.Path.{_≡_, sym, ap, _∙_}
 use denote.Ref.{now}
 use Rattle.meaning.specs.File.{before-offence, literals, literal-at, offends}
 use Rattle.problem.specs.Offences.{offence-here, offence-later, offence-none}

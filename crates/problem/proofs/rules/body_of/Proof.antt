@@ -1,21 +1,11 @@
 -- `body_of` makes the tests of a body, one after another: 7, 5 and 6.
-use mathlib.Core.Path.{_≡_, refl, sym, ap, _∙_}
+use mathlib.Core.Path.{sym, ap, _∙_}
 use native.Mathlib.Omega.{arith}
 use Rattle.problem.specs.Records.{reader-of}
 use Rattle.problem.specs.Steps.{refused-by, headed-small, counts-inside, literals-inside, many-here, counts-here, some-offends, none-offends, place-here, many-stops, counts-stops, literal-stops, body-passes}
 use borrow.Author.Needs.{needs}
 use Rattle.problem.proofs.rules.body_of.Statement.{statement}
 use Rattle.problem.proofs.rules.body_of.Tie as tie
-use Rattle.problem.proofs.rules.body_of.Reads as reads
-use Rattle.problem.proofs.rules.body_of.Lts as lts
-use Rattle.format.proofs.Row.of.Reads as of-reads
-use Rattle.problem.proofs.rules.before_offence.Reads as before-offence-reads
-use Rattle.problem.proofs.rules.counts_wrong.Reads as counts-wrong-reads
-use Rattle.problem.proofs.rules.largest_variable.Reads as largest-variable-reads
-use Rattle.problem.proofs.rules.literal_count.Reads as literal-count-reads
-use Rattle.problem.proofs.rules.past.Reads as past-reads
-use Rattle.problem.proofs.rules.same_kind.Reads as same-kind-reads
-use Rattle.problem.proofs.rules.too_many.Reads as too-many-reads
 
 of-requires : tie.Need-of-requires
 of-requires c κs = headed-small (c .before .pre .1)

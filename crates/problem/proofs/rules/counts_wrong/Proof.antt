@@ -1,13 +1,9 @@
 -- `counts_wrong` makes the definition's tests, one after another, on n and m as they stand in the body.
-use mathlib.Core.Path.{_≡_, refl, sym, ap, _∙_}
 use borrow.Author.Tests.{lt-ltb, le-ltb, eq-eqb, ne-eqb}
 use native.Mathlib.Omega.{arith}
 use Rattle.meaning.specs.File
 use Rattle.problem.proofs.rules.counts_wrong.Statement.{statement}
 use Rattle.problem.proofs.rules.counts_wrong.Tie as tie
-use Rattle.problem.proofs.rules.counts_wrong.Reads as reads
-use Rattle.problem.proofs.rules.counts_wrong.Lts as lts
-use Rattle.format.proofs.two_at.Reads as two-at-reads
 
 returns : tie.Need-returns
 unfolding File.counts-wrong

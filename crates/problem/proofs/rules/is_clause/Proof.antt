@@ -1,11 +1,8 @@
 -- `is_clause` goes by the class, as the definition does.
-use mathlib.Core.Path.{_≡_, refl, sym, ap, _∙_}
 use Rattle.meaning.specs.File
 use borrow.Author.Needs.{needs}
 use Rattle.problem.proofs.rules.is_clause.Statement.{statement}
 use Rattle.problem.proofs.rules.is_clause.Tie as tie
-use Rattle.problem.proofs.rules.is_clause.Reads as reads
-use Rattle.problem.proofs.rules.is_clause.Lts as lts
 
 enum-told : tie.Need-enum-told
 enum-told c = search needs

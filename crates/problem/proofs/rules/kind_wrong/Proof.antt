@@ -1,13 +1,11 @@
 -- `kind_wrong` makes the definition's tests, one after another.
-use mathlib.Core.Path.{_≡_, refl, sym, ap, _∙_}
+use mathlib.Core.Path.{_≡_, refl}
 use mathlib.Core.Bool.{Bool, true, false, not, _&&_, _||_}
 use lib.Dec.{eqb}
 use borrow.Author.Tests.{lt-ltb, le-ltb, eq-eqb, ne-eqb}
 use Rattle.meaning.specs.File
 use Rattle.problem.proofs.rules.kind_wrong.Statement.{statement}
 use Rattle.problem.proofs.rules.kind_wrong.Tie as tie
-use Rattle.problem.proofs.rules.kind_wrong.Reads as reads
-use Rattle.problem.proofs.rules.kind_wrong.Lts as lts
 
 -- of kind 1 only a second one is wrong, of another kind only a first record
 only-second : (b : Bool) → not b ≡ (not b || (b && false))

@@ -1,11 +1,8 @@
 -- `largest_variable` goes by the class, as the definition does.
-use mathlib.Core.Path.{_≡_, refl, sym, ap, _∙_}
 use Rattle.meaning.specs.File
 use borrow.Author.Needs.{needs}
 use Rattle.problem.proofs.rules.largest_variable.Statement.{statement}
 use Rattle.problem.proofs.rules.largest_variable.Tie as tie
-use Rattle.problem.proofs.rules.largest_variable.Reads as reads
-use Rattle.problem.proofs.rules.largest_variable.Lts as lts
 
 enum-told : tie.Need-enum-told
 enum-told c = search needs

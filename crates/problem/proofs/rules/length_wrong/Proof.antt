@@ -1,11 +1,8 @@
 -- `length_wrong` makes the definition's tests, one after another.
-use mathlib.Core.Path.{_≡_, refl, sym, ap, _∙_}
 use borrow.Author.Tests.{lt-ltb, le-ltb}
 use Rattle.meaning.specs.File
 use Rattle.problem.proofs.rules.length_wrong.Statement.{statement}
 use Rattle.problem.proofs.rules.length_wrong.Tie as tie
-use Rattle.problem.proofs.rules.length_wrong.Reads as reads
-use Rattle.problem.proofs.rules.length_wrong.Lts as lts
 
 returns : tie.Need-returns
 unfolding File.length-wrong

@@ -1,14 +1,9 @@
 -- `offends` tests the variable of either literal.
-use mathlib.Core.Path.{_≡_, refl, sym, ap, _∙_}
 use Rattle.meaning.specs.Clauses
 use Rattle.meaning.specs.File
-use Rattle.format.specs.Forms.{literal-of}
 use borrow.Author.Needs.{needs}
 use Rattle.problem.proofs.rules.offends.Statement.{statement}
 use Rattle.problem.proofs.rules.offends.Tie as tie
-use Rattle.problem.proofs.rules.offends.Reads as reads
-use Rattle.problem.proofs.rules.offends.Lts as lts
-use Rattle.problem.proofs.rules.out_of_range.Reads as out-of-range-reads
 
 enum-known-l : tie.Need-enum-known-l
 enum-known-l c = search needs

@@ -1,13 +1,10 @@
 -- `one_if_clause` is 1 or 0, by the test.
-use mathlib.Core.Path.{_≡_, refl, sym, ap, _∙_}
+use mathlib.Core.Path.{sym, _∙_}
 use native.Mathlib.Omega.{arith}
 use Rattle.meaning.specs.File
 use borrow.Author.Needs.{needs}
 use Rattle.problem.proofs.rules.one_if_clause.Statement.{statement}
 use Rattle.problem.proofs.rules.one_if_clause.Tie as tie
-use Rattle.problem.proofs.rules.one_if_clause.Reads as reads
-use Rattle.problem.proofs.rules.one_if_clause.Lts as lts
-use Rattle.problem.proofs.rules.is_clause.Reads as is-clause-reads
 
 is-clause-requires : tie.Need-is-clause-requires
 is-clause-requires c κs = search needs

@@ -1,10 +1,7 @@
 -- `out_of_range` tests for 0 and then for the largest variable.
-use mathlib.Core.Path.{_≡_, refl, sym, ap, _∙_}
 use borrow.Author.Tests.{eq-eqb, ne-eqb}
 use Rattle.problem.proofs.rules.out_of_range.Statement.{statement}
 use Rattle.problem.proofs.rules.out_of_range.Tie as tie
-use Rattle.problem.proofs.rules.out_of_range.Reads as reads
-use Rattle.problem.proofs.rules.out_of_range.Lts as lts
 
 returns : tie.Need-returns
 returns c = rw (eq-eqb _ _ (c .if1 .taken))

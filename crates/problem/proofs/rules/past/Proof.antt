@@ -1,5 +1,5 @@
 -- `past` is what the definition knows after a record.
-use mathlib.Core.Path.{_≡_, refl, sym, ap, _∙_}
+use mathlib.Core.Path.{_∙_}
 use native.Mathlib.Omega.{arith}
 use lib.Dec.{eqb}
 use borrow.Author.Tests.{eq-eqb, ne-eqb}
@@ -7,12 +7,6 @@ use Rattle.problem.specs.Steps.{headed-small, ends-inside, counts-inside
 use borrow.Author.Needs.{needs}
 use Rattle.problem.proofs.rules.past.Statement.{statement}
 use Rattle.problem.proofs.rules.past.Tie as tie
-use Rattle.problem.proofs.rules.past.Reads as reads
-use Rattle.problem.proofs.rules.past.Lts as lts
-use Rattle.format.proofs.Row.of.Reads as of-reads
-use Rattle.format.proofs.two_at.Reads as two-at-reads
-use Rattle.problem.proofs.rules.one_if_clause.Reads as one-if-clause-reads
-use Rattle.problem.proofs.rules.same_kind.Reads as same-kind-reads
 
 of-requires : tie.Need-of-requires
 of-requires c κs = headed-small (c .before .pre .1)

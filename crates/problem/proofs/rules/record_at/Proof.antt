@@ -1,6 +1,5 @@
 -- `record_at` makes the tests of a head, one after another: 2, 3, 4 and 2 again; the rest is the body's.
-use mathlib.Core.Path.{_≡_, refl, sym, ap, _∙_}
-use native.Mathlib.Omega.{arith}
+use mathlib.Core.Path.{sym, _∙_}
 use lib.ListN.{drop}
 use denote.Ref.{now}
 use Rattle.meaning.specs.File.{record-rules}
@@ -9,13 +8,6 @@ use Rattle.problem.specs.Steps.{kind-small, head-fits, head-lacks, kind-
 use borrow.Author.Needs.{needs}
 use Rattle.problem.proofs.rules.record_at.Statement.{statement}
 use Rattle.problem.proofs.rules.record_at.Tie as tie
-use Rattle.problem.proofs.rules.record_at.Reads as reads
-use Rattle.problem.proofs.rules.record_at.Lts as lts
-use Rattle.format.proofs.Row.of.Reads as of-reads
-use Rattle.format.proofs.two_at.Reads as two-at-reads
-use Rattle.problem.proofs.rules.body_of.Reads as body-of-reads
-use Rattle.problem.proofs.rules.kind_wrong.Reads as kind-wrong-reads
-use Rattle.problem.proofs.rules.length_wrong.Reads as length-wrong-reads
 
 add-if1 : tie.Need-add-if1
 add-if1 c = search needs

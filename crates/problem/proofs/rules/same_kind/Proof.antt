@@ -1,10 +1,7 @@
 -- `same_kind` goes on counting where the kind is the one before.
-use mathlib.Core.Path.{_≡_, refl, sym, ap, _∙_}
 use borrow.Author.Tests.{eq-eqb, ne-eqb}
 use Rattle.problem.proofs.rules.same_kind.Statement.{statement}
 use Rattle.problem.proofs.rules.same_kind.Tie as tie
-use Rattle.problem.proofs.rules.same_kind.Reads as reads
-use Rattle.problem.proofs.rules.same_kind.Lts as lts
 
 returns : tie.Need-returns
 returns c = rw (eq-eqb _ _ (c .if1 .taken))

@@ -1,13 +1,10 @@
 -- `too_many` makes the definition's tests, one after another.
-use mathlib.Core.Path.{_≡_, refl, sym, ap, _∙_}
+use mathlib.Core.Path.{sym, _∙_}
 use borrow.Author.Tests.{le-leb, lt-leb}
 use Rattle.meaning.specs.File
 use borrow.Author.Needs.{needs}
 use Rattle.problem.proofs.rules.too_many.Statement.{statement}
 use Rattle.problem.proofs.rules.too_many.Tie as tie
-use Rattle.problem.proofs.rules.too_many.Reads as reads
-use Rattle.problem.proofs.rules.too_many.Lts as lts
-use Rattle.problem.proofs.rules.is_clause.Reads as is-clause-reads
 
 returns : tie.Need-returns
 unfolding File.too-many

@@ -1,12 +1,9 @@
 -- `past` goes by the kind, as the definition does.
-use mathlib.Core.Path.{_≡_, refl, sym, ap, _∙_}
 use borrow.Author.Tests.{lt-ltb, le-ltb, eq-eqb, ne-eqb}
-use Rattle.problem.specs.Records.{section-past, sections-past}
+use Rattle.problem.specs.Records.{section-past}
 use borrow.Author.Needs.{needs}
 use Rattle.problem.proofs.sections.Section.past.Statement.{statement}
 use Rattle.problem.proofs.sections.Section.past.Tie as tie
-use Rattle.problem.proofs.sections.Section.past.Reads as reads
-use Rattle.problem.proofs.sections.Section.past.Lts as lts
 
 returns : tie.Need-returns
 unfolding section-past

@@ -1,12 +1,8 @@
 -- `past` takes each section past the record.
-use mathlib.Core.Path.{_≡_, refl, sym, ap, _∙_}
-use Rattle.problem.specs.Records.{section-past, sections-past}
+use Rattle.problem.specs.Records.{sections-past}
 use borrow.Author.Needs.{needs}
 use Rattle.problem.proofs.sections.Sections.past.Statement.{statement}
 use Rattle.problem.proofs.sections.Sections.past.Tie as tie
-use Rattle.problem.proofs.sections.Sections.past.Reads as reads
-use Rattle.problem.proofs.sections.Sections.past.Lts as lts
-use Rattle.problem.proofs.sections.Section.past.Reads as past-reads
 
 past-requires : tie.Need-past-requires
 past-requires c κs = search needs
