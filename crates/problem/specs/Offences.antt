@@ -28,6 +28,17 @@ one-more file at count i h =
     more = omega arith
 
 module _ (most : ℕ) where
+  -- before the first literal none is passed
+  pub offence-first : (file : List ℕ) (at count : ℕ)
+      → before-offence most (literals file at count) ≡ 0 + before-offence most (literals file (at + 2 * 0) (count - 0))
+  offence-first file at count =
+      let place : at ≡ at + 2 * 0 = omega arith in
+      let all-left : count ≡ count - 0 = omega arith in
+      let same =
+      ap (λ (a : ℕ). before-offence most (literals file a count)) place ∙
+      ap (λ (n : ℕ). before-offence most (literals file (at + 2 * 0) n)) all-left in
+      omega (arith, same)
+
   -- at a literal that offends there is none before the first
   pub offence-here : (file : List ℕ) (at count i : ℕ) → i < count → offends most (literal-at file (at + 2 * i)) ≡ true
       → before-offence most (literals file (at + 2 * i) (count - i)) ≡ 0

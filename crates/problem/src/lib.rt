@@ -5,14 +5,12 @@ use format::Problem;
 mod rules;
 mod sections;
 
-use rules::Cursor;
 use rules::Step;
-use sections::Sections;
 ghost use mathlib.Core.Path.{_≡_};
 ghost use mathlib.Core.List.{[]};
-ghost use Rattle.meaning.specs.File.{«read»};
+ghost use Rattle.meaning.specs.File.{read};
 ghost use Rattle.meaning.specs.Calls.{«check-call»};
-ghost use Rattle.problem.specs.Answers.{«reading-of-answer», «PlacedIf», «report-of»};
+ghost use Rattle.problem.specs.Answers.{«reading-of-answer», PlacedIf, «report-of»};
 
 // What reading a file answers: an accepted problem, or a refusal with its number and place.
 pub enum Checked {
@@ -22,7 +20,7 @@ pub enum Checked {
 
 // 1: file over 65,536 bytes; then record by record; 8: bytes after kind 6.
 pub fn read_problem(file: &[u8]) -> Checked
-    ensures { λ r. ⌜ («reading-of-answer» (now (file .entry)) r ≡ «read» (now (file .entry))) × «PlacedIf» (now (file .entry)) r ⌝ }
+    ensures { λ r. ⌜ («reading-of-answer» (now (file .entry)) r ≡ read (now (file .entry))) × PlacedIf (now (file .entry)) r ⌝ }
 {
     if Problem::FILE_MOST < file.len() {
         return Checked::Refused(1, 0);

@@ -9,7 +9,7 @@ ghost use mathlib.Core.Bool.{_||_, cond};
 ghost use Prim.Native.Nat.{_+_, _*_, _<_, _≤_};
 ghost use lib.ListN.{length, drop};
 ghost use lib.Dec.{eqb, ltb};
-ghost use Rattle.meaning.specs.File.{«at-start», «past», «record-rules», «kind-wrong», «length-wrong», «too-many», «counts-wrong», «two-at», «literals», «offends», «before-offence», «is-clause», «literal-count», «largest-variable», «one-if-clause»};
+ghost use Rattle.meaning.specs.File.{«at-start», past, «record-rules», «kind-wrong», «length-wrong», «too-many», «counts-wrong», «two-at», literals, offends, «before-offence», «is-clause», «literal-count», «largest-variable», «one-if-clause»};
 ghost use Rattle.format.specs.Forms.{«kind-of», «class-of», «literal-of»};
 ghost use Rattle.problem.specs.Records.{«reader-of», Sane, Headed, Stepped};
 
@@ -160,7 +160,7 @@ fn out_of_range(most: usize, v: usize) -> bool
 }
 
 fn offends(most: usize, l: Literal) -> bool
-    ensures { λ r. ⌜ r ≡ «offends» most («literal-of» l) ⌝ }
+    ensures { λ r. ⌜ r ≡ offends most («literal-of» l) ⌝ }
 {
     match l {
         Literal::Pos(v) => out_of_range(most, v),
@@ -171,7 +171,7 @@ fn offends(most: usize, l: Literal) -> bool
 // 6: how many literals stand before the first that offends.
 fn before_offence(file: &[u8], at: usize, count: usize, most: usize) -> usize
     requires { ⌜ (at + 2 * count ≤ length (now file)) ⌝ }
-    ensures { λ r. ⌜ r ≡ «before-offence» most («literals» (now (file .entry)) at count) ⌝ }
+    ensures { λ r. ⌜ r ≡ «before-offence» most (literals (now (file .entry)) at count) ⌝ }
 {
     let mut i = 0;
     while i < count {
@@ -194,7 +194,7 @@ fn same_kind(w: Cursor, kind: usize) -> usize
 fn past(file: &[u8], w: Cursor, len: usize, kind: usize) -> Cursor
     requires { ⌜ Sane (now file) («reader-of» w) ⌝ }
     requires { ⌜ Headed (now file) («reader-of» w) len kind ⌝ }
-    ensures { λ r. ⌜ «reader-of» r ≡ «past» (now (file .entry)) («reader-of» w) ⌝ }
+    ensures { λ r. ⌜ «reader-of» r ≡ past (now (file .entry)) («reader-of» w) ⌝ }
 {
     let row = Row::of(kind);
     let class = row.class;

@@ -1,10 +1,10 @@
 -- `before_offence` goes from literal to literal. The invariant: as many are passed as `i` says, and what is left adds to them.
-use Prim.Native.Nat.{ℕ, _+_, _-_, _*_, _≤_}
+use Prim.Native.Nat.{_+_, _-_, _*_, _≤_}
 use native.Mathlib.Omega.{arith}
 use mathlib.Core.Path.{_≡_, sym, ap, _∙_}
 use denote.Ref.{now}
 use Rattle.meaning.specs.File.{before-offence, literals, literal-at, offends}
-use Rattle.problem.specs.Offences.{offence-here, offence-later, offence-none}
+use Rattle.problem.specs.Offences.{offence-first, offence-here, offence-later, offence-none}
 use Rattle.problem.proofs.rules.before_offence.Statement.{statement}
 use Rattle.problem.proofs.rules.before_offence.Tie as tie
 use Rattle.problem.proofs.rules.before_offence.Reads as reads
@@ -20,24 +20,10 @@ Inv-loop file at count most i₀ i =
 abbrev μ-loop : tie.MeasureT-loop
 μ-loop file at count most i₀ i = count - i
 
-none-passed : (n : ℕ) → n ≡ n - 0
-none-passed n = omega arith
-
-at-first : (n : ℕ) → n ≡ n + 2 * 0
-at-first n = omega arith
-
-first : (n : ℕ) → n ≡ 0 + n
-first n = omega arith
-
 loop-holds : tie.Need-loop-holds Inv-loop μ-loop
 loop-holds c =
-    let args = c .before .args in (
-      omega arith,
-      ap (λ (n : ℕ). before-offence (args .most) (literals (now (args .file)) (args .at) n))
-          (none-passed (args .count)) ∙
-          ap (λ (a : ℕ). before-offence (args .most) (literals (now (args .file)) a (args .count - 0))) (at-first (args .at)) ∙
-          first _,
-    )
+    let args = c .before .args in
+    (omega arith, offence-first (args .most) (now (args .file)) (args .at) (args .count))
 
 mul-literal-at : tie.Need-mul-literal-at Inv-loop μ-loop
 mul-literal-at c = omega arith
