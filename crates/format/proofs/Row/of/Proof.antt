@@ -1,6 +1,6 @@
 -- `Row::of` gives the row of the definition's kind table: the code's table is the definition's, row by row.
 use Prim.Native.Nat.{ℕ}
-use mathlib.Core.Path.{_≡_, refl, sym, ap, _∙_}
+use mathlib.Core.Path.{_≡_, refl, ap, _∙_}
 use mathlib.Core.List.{map}
 use lib.ListN.{getD, List·getD-map}
 use borrow.Author.Needs.{needs}

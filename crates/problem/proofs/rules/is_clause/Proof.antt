@@ -1,0 +1,29 @@
+-- `is_clause` goes by the class, as the definition does.
+use Rattle.meaning.specs.File
+use borrow.Author.Needs.{needs}
+use Rattle.problem.proofs.rules.is_clause.Statement.{statement}
+use Rattle.problem.proofs.rules.is_clause.Tie as tie
+
+enum-told : tie.Need-enum-told
+enum-told c = search needs
+
+enum-told-2 : tie.Need-enum-told-2
+enum-told-2 c = search needs
+
+enum-told-3 : tie.Need-enum-told-3
+enum-told-3 c = search needs
+
+returns : tie.Need-returns
+unfolding File.is-clause
+returns c = rw (c .enum-told .given .1)
+
+returns-2 : tie.Need-returns-2
+unfolding File.is-clause
+returns-2 c = rw (c .enum-told2 .given .1)
+
+returns-3 : tie.Need-returns-3
+unfolding File.is-clause
+returns-3 c = rw (c .enum-told3 .given .1)
+
+pub is-clause-spec : {M : Type 1} → statement M
+is-clause-spec = tie.close (tie.spec enum-told enum-told-2 enum-told-3 returns returns-2 returns-3)
