@@ -1,0 +1,1 @@
+-- Where a question's clauses stand in a file.
