@@ -2,6 +2,9 @@
 // decisions. `ask` is the one way in.
 use format::Literal;
 use format::Problem;
+
+mod values; // settings by value
+
 ghost use mathlib.Core.Path.{_≡_};
 
 // A partial setting, by variable number (0 stands idle): 0 unset, 1 true, 2 false.
