@@ -63,6 +63,12 @@ pub neg-value : (xs : List ℕ) (l : Literal) (x : ℕ) → l ≡ Neg x → flip
 unfolding value
 neg-value xs l x e = ap flipped (sym (entry-at xs x)) ∙ ap (λ (k : Literal). value (entries xs) (literal-of k)) (sym e)
 
+pub entry-false : (x : ℕ) → (x ≡ 0 → ⊥) → (x ≡ 1 → ⊥) → entry x ≡ some false
+unfolding entry
+entry-false zero f g = absurd (f refl)
+entry-false (suc zero) f g = absurd (g refl)
+entry-false (suc (suc x)) f g = refl
+
 -- an entry turned round
 
 pub turned-unset : (x : ℕ) → x ≡ 0 → entry 0 ≡ flipped (entry x)
@@ -75,6 +81,4 @@ turned-true x e = ap (λ (y : ℕ). flipped (entry y)) (sym e)
 
 pub turned-false : (x : ℕ) → (x ≡ 0 → ⊥) → (x ≡ 1 → ⊥) → entry 1 ≡ flipped (entry x)
 unfolding entry flipped
-turned-false zero f g = absurd (f refl)
-turned-false (suc zero) f g = absurd (g refl)
-turned-false (suc (suc x)) f g = refl
+turned-false x f g = ap flipped (sym (entry-false x f g))

@@ -1,11 +1,16 @@
 -- What the status of a clause says of its literals, place by place.
+use Prim.Native.Nat.{ℕ, _≤_}
 use mathlib.Core.Path.{_≡_, refl, sym, ap, _∙_, subst}
+use mathlib.Core.Logic.{inl}
 use mathlib.Core.Bool.{Bool, true, false, _||_}
 use mathlib.Core.Option.{Option, none, some}
 use mathlib.Core.List.{List, [], _∷_}
-use Rattle.meaning.specs.Clauses.{Literal, Clause, any}
+use Rattle.meaning.specs.Clauses.{Literal, Clause, variable, any}
 use Rattle.meaning.specs.Search.{Setting, value, says-true, has-true, only-false, keep-unset, unset-places, only-place, forced-by, first-place, open-in}
-use Rattle.laws.specs.Moves.{no-place}
+use Rattle.meaning.specs.Demands.{In}
+use Rattle.laws.specs.Within.{ClauseWithin}
+use Rattle.laws.specs.Range.{literal-at}
+use Rattle.laws.specs.Moves.{UnsetIn, forced-unset, no-place}
 use Rattle.search.specs.Sweep.{Status, met, failed, one, more, seen, by-value, status-from, status}
 
 -- what the tests of a clause come to, after what was seen
@@ -52,3 +57,26 @@ status-means v c =
     go false [] e p = no-place v c e p
     go false (l ∷ []) e p = cc
     go false (l ∷ k ∷ ls) e p = subst (Means v c) (sym (first l ls)) (e, cc, cc)
+
+-- the range of the literal that a clause forces
+pub one-range : (most : ℕ) (v : Setting) (c : Clause) (l : Literal) → ClauseWithin most c → status v c ≡ one l → variable l ≤ most
+one-range most v c l h e = in-clause (forced-unset (c ∷ []) v l (c, inl refl, subst (Means v c) e (status-means v c)))
+  where
+    in-clause : UnsetIn (c ∷ []) v l → variable l ≤ most
+    in-clause (d, inl same, i, u) = literal-at most l c h (subst (λ (x : Clause). In l x) same i) .1
+
+-- the first of the literals that are left, by its value
+
+pub status-true : (v : Setting) (s : Status) (l : Literal) (c : Clause) → value v l ≡ some true → status-from v s (l ∷ c) ≡ met
+unfolding status-from by-value
+status-true v s l c e = rw e
+
+pub status-false : (v : Setting) (s : Status) (l : Literal) (c : Clause) → value v l ≡ some false
+    → status-from v s (l ∷ c) ≡ status-from v s c
+unfolding status-from by-value
+status-false v s l c e = rw e
+
+pub status-unset : (v : Setting) (s : Status) (l : Literal) (c : Clause) → value v l ≡ none
+    → status-from v s (l ∷ c) ≡ status-from v (seen s l) c
+unfolding status-from by-value
+status-unset v s l c e = rw e

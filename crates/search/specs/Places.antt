@@ -1,1 +1,22 @@
--- Where a question's clauses stand in a file.
+-- Where a question's clauses stand in a file, and what makes them safe to read there.
+use Prim.Native.Nat.{ℕ, zero, suc, _+_, _*_, _≤_, _<_}
+use mathlib.Core.Bool.{Bool}
+use mathlib.Core.List.{List, [], _∷_, _++_, map}
+use lib.ListN.{length}
+use Rattle.meaning.specs.Clauses.{Clause}
+use Rattle.meaning.specs.Meaning.{at-marks}
+use Rattle.meaning.specs.File.{literals}
+use Rattle.meaning.specs.Rules.{denied, next}
+use Rattle.laws.specs.Within.{ClauseWithin, Within}
+use Rattle.format.specs.Section.{next-record, section, Inside}
+use Rattle.search.specs.declared.Parts.{Parts}
+
+-- so many literals lie inside the file, each of a variable up to 512
+pub record Literals (file : List ℕ) (at count : ℕ) : Type 0 where
+  pub inside : at + 2 * count ≤ length file
+  pub within : ClauseWithin 512 (literals file at count)
+
+-- so many records lie inside the file, each literal of a variable up to 512
+pub record Records (file : List ℕ) (at count : ℕ) : Type 0 where
+  pub inside : Inside file at count
+  pub within : Within 512 (section file at count)

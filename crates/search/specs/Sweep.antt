@@ -53,6 +53,18 @@ met-by failed v n = closed
 met-by (one l) v n = passed (with-literal v l) forced
 met-by (more l) v n = passed v (opened n l)
 
+-- a clause of a status is met
+unfoldable pub met-on : Status → Pass → Pass
+met-on s closed = closed
+met-on s (passed v n) = met-by s v n
+
+-- the setting after a clause of a status
+unfoldable pub set-by : Status → Setting → Setting
+set-by met v = v
+set-by failed v = v
+set-by (one l) v = with-literal v l
+set-by (more l) v = v
+
 -- the next clause is met
 unfoldable pub meet : Clause → Pass → Pass
 meet c closed = closed

@@ -3,6 +3,7 @@
 use format::Literal;
 use format::Problem;
 
+mod clauses; // a pass over clauses
 mod values; // settings by value
 
 ghost use mathlib.Core.Path.{_≡_};
