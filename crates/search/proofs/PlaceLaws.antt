@@ -1,19 +1,23 @@
 -- Clauses read in place: the next literal, the next record.
 use Prim.Native.Nat.{ℕ, zero, suc, _+_, _-_, _*_, _/_, _≤_, _<_}
 use native.Mathlib.Nat.{not-suc-le-zero}
-use native.Mathlib.Numerals.{sub-one}
+use native.Mathlib.Numerals.{add-one, sub-one}
 use native.Mathlib.Omega.{arith}
 use mathlib.Core.Path.{_≡_, refl, sym, ap, _∙_, subst}
-use mathlib.Core.List.{List, [], _∷_}
-use lib.ListN.{length}
-use Rattle.meaning.specs.Clauses.{Literal, Clause, variable}
+use mathlib.Core.Bool.{Bool, true, false, true≢false}
+use mathlib.Core.List.{List, [], _∷_, map}
+use lib.ListN.{length, getD, drop}
+use Rattle.meaning.specs.Clauses.{Literal, pos, neg, Clause, variable, negation}
+use Rattle.meaning.specs.Meaning.{at-marks}
+use Rattle.meaning.specs.Rules.{denied, next}
 use Rattle.meaning.specs.Search.{Setting, value}
 use Rattle.meaning.specs.File.{two-at, literal-at, literals}
 use Rattle.format.specs.Section.{next-record, clause-at, section, Inside}
 use Rattle.laws.specs.Within.{ClauseWithin, Within}
+use Rattle.laws.specs.Setting.{variable-negation}
 use Rattle.search.specs.Sweep.{Status, met, seen, status-from}
 use Rattle.search.specs.Forms.{entry}
-use Rattle.search.specs.Places.{Literals, Records}
+use Rattle.search.specs.Places.{Literals, Records, Denials}
 use Rattle.search.proofs.EntryLaws.{entry-false}
 use Rattle.search.proofs.StatusLaws.{status-true, status-false, status-unset}
 
@@ -99,3 +103,69 @@ module _ (file : List ℕ) (at left : ℕ) (h : 0 < left) (r : Records file at l
 
   pub records-next : Records file (next-record file at) (left - 1)
   records-next = record { inside = inside-more file at left h (r .inside) .1; within = clauses-within .1 }
+
+-- the lemma at a position, in or out
+
+pub marks-in : (on : List Bool) (i : ℕ) (c : Clause) (cs : List Clause) → getD on i false ≡ true
+    → at-marks (drop i on) (c ∷ cs) ≡ c ∷ at-marks (drop (i + 1) on) cs
+unfolding at-marks
+marks-in on i c cs e = go on i e ∙ ap (λ (k : ℕ). c ∷ at-marks (drop k on) cs) (sym (add-one i))
+  where
+    go : (on : List Bool) (i : ℕ) → getD on i false ≡ true → at-marks (drop i on) (c ∷ cs) ≡ c ∷ at-marks (drop (suc i) on) cs
+    go [] i e = absurd (true≢false (sym e))
+    go (true ∷ on) zero e = refl
+    go (false ∷ on) zero e = absurd (true≢false (sym e))
+    go (b ∷ on) (suc i) e = go on i e
+
+pub marks-out : (on : List Bool) (i : ℕ) (c : Clause) (cs : List Clause) → getD on i false ≡ false
+    → at-marks (drop i on) (c ∷ cs) ≡ at-marks (drop (i + 1) on) cs
+unfolding at-marks
+marks-out on i c cs e = go on i e ∙ ap (λ (k : ℕ). at-marks (drop k on) cs) (sym (add-one i))
+  where
+    go : (on : List Bool) (i : ℕ) → getD on i false ≡ false → at-marks (drop i on) (c ∷ cs) ≡ at-marks (drop (suc i) on) cs
+    go [] zero e = refl
+    go [] (suc i) e = refl
+    go (true ∷ on) zero e = absurd (true≢false e)
+    go (false ∷ on) zero e = refl
+    go (b ∷ on) (suc i) e = go on i e
+
+pub marks-none : (on : List Bool) → at-marks on [] ≡ []
+unfolding at-marks
+marks-none [] = refl
+marks-none (b ∷ on) = refl
+
+-- the next literal that is denied
+
+variable-next : (n : ℕ) (l : Literal) → variable (next n l) ≡ n + variable l
+unfolding variable next
+variable-next n (pos x) = refl
+variable-next n (neg x) = refl
+
+module _ (file : List ℕ) (at left added : ℕ) (h : 0 < left) (r : Denials file at left added) where
+  pub denied-more : denied (map (next added) (literals file at left))
+      ≡ (negation (next added (literal-at file at)) ∷ []) ∷ denied (map (next added) (literals file (at + 2) (left - 1)))
+  unfolding denied
+  denied-more = ap (λ (c : Clause). denied (map (next added) c)) (literals-more file at left h)
+
+  shifted-within : ClauseWithin 512 (next added (literal-at file at) ∷ map (next added) (literals file (at + 2) (left - 1)))
+  shifted-within = subst (λ (c : Clause). ClauseWithin 512 (map (next added) c)) (literals-more file at left h) (r .within)
+
+  pub denial-inside : at + 1 < length file
+  denial-inside = let i : at + 2 * left ≤ length file = r .inside in omega arith
+
+  pub denial-range : added + variable (literal-at file at) < 513
+  denial-range =
+      let i : variable (next added (literal-at file at)) ≤ 512 = shifted-within .1 in
+      omega (arith, variable-next added (literal-at file at))
+
+  -- the clause of the one literal that is denied
+  pub denial-within : ClauseWithin 512 (negation (next added (literal-at file at)) ∷ [])
+  denial-within = (rw variable-negation (shifted-within .0), rw variable-negation (shifted-within .1), tt)
+
+  pub denials-next : Denials file (at + 2) (left - 1) added
+  denials-next = let i : at + 2 * left ≤ length file = r .inside in record { inside = omega arith; within = shifted-within .2 }
+
+pub denied-done : (file : List ℕ) (at left added : ℕ) → left ≤ 0 → denied (map (next added) (literals file at left)) ≡ []
+unfolding literals denied
+denied-done file at zero added h = refl
+denied-done file at (suc left) added h = absurd (not-suc-le-zero h)

@@ -20,3 +20,8 @@ pub record Literals (file : List ℕ) (at count : ℕ) : Type 0 where
 pub record Records (file : List ℕ) (at count : ℕ) : Type 0 where
   pub inside : Inside file at count
   pub within : Within 512 (section file at count)
+
+-- so many literals lie inside the file, each of a variable up to 512 with a number added
+pub record Denials (file : List ℕ) (at count added : ℕ) : Type 0 where
+  pub inside : at + 2 * count ≤ length file
+  pub within : ClauseWithin 512 (map (next added) (literals file at count))

@@ -6,6 +6,7 @@ use mathlib.Core.Logic.{inl, inr}
 use mathlib.Core.List.{List, []}
 use lib.ListN.{length}
 use Rattle.meaning.specs.Clauses.{Clause}
+use Rattle.meaning.specs.File.{literals}
 use Rattle.format.specs.Section.{section}
 use Rattle.search.specs.declared.Setting as Code
 use Rattle.search.specs.declared.Next.{Next}
@@ -120,8 +121,8 @@ with-requires c κs =
     let scan = c .before .before .before .before in
     let two = scan .before .before .before in
     let loop = two .before .before .before in
-    one-below (setting-of (loop .loop .setting)) (loop .before .before .before .args .file .now) (loop .loop .at + 4) (two .two-at .result / 2)
-    (clause two) (scan .scan .result) (c .before .status .given .0 .0) (scan .scan .ensures) (c .before .status .given .1)
+    one-below (setting-of (loop .loop .setting))
+    (literals (loop .before .before .before .args .file .now) (loop .loop .at + 4) (two .two-at .result / 2)) (clause two .within) (scan .scan .result) (c .before .status .given .0 .0) (scan .scan .ensures) (c .before .status .given .1)
 
 loop-less : tie.Need-loop-less Inv-loop μ-loop
 loop-less c = omega arith
