@@ -217,7 +217,7 @@ module _ (most : ℕ) (cs : List Clause) (within : Within most cs) (v : Setting)
   -- rule (d), where all clauses are quiet and one is without a true literal
   quiet-try : (l : Literal) → Quiet v cs → first-of (open-in v) cs ≡ some l → Ready cs v (passed v (try l))
   unfolding search-at tried open-in first-place
-  quiet-try l q e = (same, omega (arith, fewer), omega (arith, fewer-denied), refl)
+  quiet-try l q e = (same, range, omega (arith, fewer), omega (arith, fewer-denied), refl)
     where
       u : UnsetIn cs v l
       u = open-unset cs v l e
@@ -279,4 +279,4 @@ pub ready-before : (cs : List Clause) (v u : Setting) (p : Pass) → search-at c
 ready-before cs v u closed e i s h = e ∙ h
 ready-before cs v u (passed w satisfied) e i s h = e ∙ h
 ready-before cs v u (passed w forced) e i s h = h
-ready-before cs v u (passed w (try l)) e i s h = (e ∙ h .0, omega (arith, h .1), omega (arith, h .2), h .3 ∙ s)
+ready-before cs v u (passed w (try l)) e i s h = (e ∙ h .0, h .1, omega (arith, h .2), omega (arith, h .3), h .4 ∙ s)

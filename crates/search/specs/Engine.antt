@@ -3,7 +3,7 @@ use Prim.Native.Nat.{ℕ, _<_}
 use mathlib.Core.Path.{_≡_}
 use mathlib.Core.List.{List}
 use lib.ListN.{length}
-use Rattle.meaning.specs.Clauses.{Literal, Clause, negation}
+use Rattle.meaning.specs.Clauses.{Literal, Clause, variable, negation}
 use Rattle.meaning.specs.Search.{Setting, with-literal, Ending, can, cannot, then-false, search-from}
 use Rattle.laws.specs.Setting.{unset-count}
 use Rattle.search.specs.Sweep.{Pass, closed, passed, satisfied, forced, try}
@@ -23,6 +23,7 @@ Ready cs v (passed u satisfied) = search-at cs v ≡ can u 0
 Ready cs v (passed u forced) = ⊥
 Ready cs v (passed u (try l)) =
     (search-at cs v ≡ tried cs u l)
+    × (variable l < length u)
     × (unset-count (with-literal u l) < unset-count v)
     × (unset-count (with-literal u (negation l)) < unset-count v)
     × (length u ≡ length v)

@@ -1,5 +1,5 @@
 -- What the code's types stand for: settings, sets of positions, questions, answers within a budget, and passes.
-use Prim.Native.Nat.{ℕ, zero, suc, _<_}
+use Prim.Native.Nat.{ℕ, zero, suc, _+_, _^_, _<_}
 use mathlib.Core.Bool.{Bool, true, false}
 use mathlib.Core.Option.{Option, none, some}
 use mathlib.Core.List.{List, map}
@@ -62,6 +62,18 @@ spent-if false a = yes-or-no (a .sat) (a .count)
 unfoldable pub bounded : ℕ → Answer → Found
 bounded left a = spent-if (ltb left (a .count)) a
 
+-- an answer after so many decisions more
+abbrev pub later : ℕ → Found → Found
+later d (Yes e) = Yes (d + e)
+later d (No e) = No (d + e)
+later d Spent = Spent
+
+-- the decisions of both fit a count
+abbrev pub Counts : ℕ → Found → Type 0
+Counts d (Yes e) = d + e < 2 ^ 64
+Counts d (No e) = d + e < 2 ^ 64
+Counts d Spent = Unit {0}
+
 abbrev pub status-of : Status → spec.Status
 status-of Holds = spec.met
 status-of Fails = spec.failed
@@ -76,3 +88,10 @@ pass-at Closed v = spec.closed
 
 abbrev pub pass-of : Pass → spec.Pass
 pass-of p = pass-at (p .next) (setting-of (p .setting))
+
+-- the answer where nothing is left to try
+abbrev pub ended-by : Next → Found
+ended-by Satisfied = Yes 0
+ended-by (Try l) = No 0
+ended-by Forced = No 0
+ended-by Closed = No 0

@@ -25,3 +25,19 @@ pub record Records (file : List ℕ) (at count : ℕ) : Type 0 where
 pub record Denials (file : List ℕ) (at count added : ℕ) : Type 0 where
   pub inside : at + 2 * count ≤ length file
   pub within : ClauseWithin 512 (map (next added) (literals file at count))
+
+-- the clauses of a question, as they stand in a file
+unfoldable pub parts-clauses : List ℕ → List Bool → Parts → List Clause
+parts-clauses file on q =
+    section file (q .«first_at») (q .«first_count»)
+    ++ (at-marks on (section file (q .«lemmas_at») (q .«lemmas_count»))
+    ++ (section file (q .«last_at») (q .«last_count»)
+    ++ denied (map (next (q .added)) (literals file (q .«denied_at») (q .«denied_count»)))))
+
+-- they can be read there
+pub record Sound (file : List ℕ) (q : Parts) : Type 0 where
+  pub first : Records file (q .«first_at») (q .«first_count»)
+  pub lemmas : Records file (q .«lemmas_at») (q .«lemmas_count»)
+  pub few : q .«lemmas_count» ≤ 128
+  pub last : Records file (q .«last_at») (q .«last_count»)
+  pub deny : Denials file (q .«denied_at») (q .«denied_count») (q .added)

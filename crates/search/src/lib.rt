@@ -4,6 +4,7 @@ use format::Literal;
 use format::Problem;
 
 mod clauses; // a pass over clauses
+mod engine; // the search
 mod values; // settings by value
 
 ghost use mathlib.Core.Path.{_≡_};
