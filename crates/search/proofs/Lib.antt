@@ -6,3 +6,4 @@ mod StatusLaws
 mod SweepLaws
 mod TurnLaws
 mod EngineLaws
+mod QuestionLaws

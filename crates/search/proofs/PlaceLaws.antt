@@ -21,7 +21,7 @@ use Rattle.search.specs.Places.{Literals, Records, Denials}
 use Rattle.search.proofs.EntryLaws.{entry-false}
 use Rattle.search.proofs.StatusLaws.{status-true, status-false, status-unset}
 
-pred-suc : (k : ℕ) → suc k - 1 ≡ k
+pub pred-suc : (k : ℕ) → suc k - 1 ≡ k
 pred-suc k = sub-one (suc k)
 
 pub literals-more : (file : List ℕ) (at left : ℕ) → 0 < left
@@ -81,12 +81,12 @@ unfolding section
 section-done file at zero h = refl
 section-done file at (suc left) h = absurd (not-suc-le-zero h)
 
-inside-more : (file : List ℕ) (at left : ℕ) → 0 < left → Inside file at left
+pub inside-more : (file : List ℕ) (at left : ℕ) → 0 < left → Inside file at left
     → (next-record file at ≤ length file) × Inside file (next-record file at) (left - 1)
 inside-more file at zero h i = absurd (not-suc-le-zero h)
 inside-more file at (suc left) h i = (i .0, subst (Inside file (next-record file at)) (sym (pred-suc left)) (i .1))
 
-half-twice : (n : ℕ) → 2 * (n / 2) ≤ n
+pub half-twice : (n : ℕ) → 2 * (n / 2) ≤ n
 half-twice n = omega arith
 
 module _ (file : List ℕ) (at left : ℕ) (h : 0 < left) (r : Records file at left) where

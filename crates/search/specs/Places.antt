@@ -1,15 +1,19 @@
 -- Where a question's clauses stand in a file, and what makes them safe to read there.
 use Prim.Native.Nat.{ℕ, zero, suc, _+_, _*_, _≤_, _<_}
+use mathlib.Core.Path.{_≡_}
 use mathlib.Core.Bool.{Bool}
 use mathlib.Core.List.{List, [], _∷_, _++_, map}
-use lib.ListN.{length}
+use lib.ListN.{length, take}
 use Rattle.meaning.specs.Clauses.{Clause}
 use Rattle.meaning.specs.Meaning.{at-marks}
 use Rattle.meaning.specs.File.{literals}
-use Rattle.meaning.specs.Rules.{denied, next}
+use Rattle.meaning.specs.Rules.{denied, next, clauses}
 use Rattle.laws.specs.Within.{ClauseWithin, Within}
-use Rattle.format.specs.Section.{next-record, section, Inside}
+use Rattle.format.specs.Section.{next-record, section, Inside, problem-at}
+use Rattle.format.specs.declared.Problem.{Problem}
 use Rattle.search.specs.declared.Parts.{Parts}
+use Rattle.search.specs.declared.Question.{Question}
+use Rattle.search.specs.Forms.{question-of}
 
 -- so many literals lie inside the file, each of a variable up to 512
 pub record Literals (file : List ℕ) (at count : ℕ) : Type 0 where
@@ -41,3 +45,13 @@ pub record Sound (file : List ℕ) (q : Parts) : Type 0 where
   pub few : q .«lemmas_count» ≤ 128
   pub last : Records file (q .«last_at») (q .«last_count»)
   pub deny : Denials file (q .«denied_at») (q .«denied_count») (q .added)
+
+-- where the record so many records on from a place starts
+unfoldable pub place : List ℕ → ℕ → ℕ → ℕ
+place file at zero = at
+place file at (suc d) = place file (next-record file at) d
+
+-- the parts are those of a question, whichever set it is asked of
+pub record Asks (file : List ℕ) (p : Problem) (q : Question) (r : Parts) : Type 0 where
+  pub sound : Sound file r
+  pub same : (on : List Bool) → parts-clauses file on r ≡ clauses (problem-at file p) (take (p .k) on) (question-of q)

@@ -1,13 +1,19 @@
 // The questions of a problem file, asked: partial settings, a question's clauses read in place from the file, and the search with its count of
 // decisions. `ask` is the one way in.
+use engine::decide;
 use format::Literal;
 use format::Problem;
+use places::parts_of;
 
 mod clauses; // a pass over clauses
 mod engine; // the search
+mod places; // where a question's clauses stand
 mod values; // settings by value
 
 ghost use mathlib.Core.Path.{_≡_};
+ghost use Rattle.meaning.specs.Rules.{asked};
+ghost use Rattle.format.specs.Section.{Placed, «problem-at»};
+ghost use Rattle.search.specs.Forms.{«marks-at», «question-of», Among, bounded};
 
 // A partial setting, by variable number (0 stands idle): 0 unset, 1 true, 2 false.
 pub struct Setting {
@@ -69,4 +75,13 @@ struct Parts {
     denied_at: usize,
     denied_count: usize,
     added: usize,
+}
+
+// Every question of a call is asked here: of a problem that was read from a file, for the lemmas that are marked, within the decisions left.
+pub fn ask(file: &[u8], p: Problem, s: Marks, q: Question, left: u64) -> Found
+    requires { ⌜ Placed (now file) p × Among (p .k) q ⌝ }
+    ensures { λ r. ⌜ r ≡ bounded left (asked («problem-at» (now (file .entry)) p) («marks-at» (p .k) s) («question-of» q)) ⌝ }
+{
+    let parts = parts_of(file, p, q);
+    decide(file, &s.on, parts, Setting::none_set(), left)
 }
