@@ -1,5 +1,5 @@
 -- An answer within a budget: the two tries of rule (d), with what is left after the first.
-use Prim.Native.Nat.{ℕ, zero, suc, _+_, _-_, _^_, _≤_, _<_}
+use Prim.Native.Nat.{ℕ, _+_, _-_, _^_, _≤_, _<_}
 use native.Mathlib.Omega.{arith}
 use mathlib.Core.Path.{_≡_, refl, sym, ap, _∙_, subst}
 use mathlib.Core.Logic.{_⊎_, inl, inr}
@@ -10,7 +10,7 @@ use Rattle.meaning.specs.Clauses.{Literal, negation}
 use Rattle.meaning.specs.Search.{Setting, with-literal, Ending, can, cannot, lost, after, then-false}
 use Rattle.meaning.specs.Rules.{Answer, answer, counted-on}
 use Rattle.search.specs.declared.Found.{Found}
-use Rattle.search.specs.declared.Found.the-variants.{Yes, No, Spent}
+use Rattle.search.specs.declared.Found.the-variants.{No, Spent}
 use Rattle.search.specs.Forms.{yes-or-no, spent-if, bounded, later, Counts}
 
 within-or-over : (left n : ℕ) → (left < n) ⊎ (n ≤ left)

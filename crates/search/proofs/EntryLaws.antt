@@ -1,10 +1,10 @@
 -- Entries of a setting as bytes: how they are read and set.
 use Prim.Native.Nat.{ℕ, zero, suc, _<_}
 use mathlib.Core.Path.{_≡_, refl, sym, ap, _∙_, subst}
-use mathlib.Core.Bool.{Bool, true, false}
-use mathlib.Core.Option.{Option, none, some}
+use mathlib.Core.Bool.{false}
+use mathlib.Core.Option.{none, some}
 use mathlib.Core.List.{List, [], _∷_, map}
-use lib.ListN.{length, getD, set, replicate, length-map}
+use lib.ListN.{length, getD, set, replicate}
 use Rattle.meaning.specs.Clauses.{variable}
 use Rattle.meaning.specs.Search.{Setting, blank, flipped, value, with-literal}
 use Rattle.format.specs.Forms.{literal-of}

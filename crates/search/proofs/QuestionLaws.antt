@@ -6,26 +6,24 @@ use mathlib.Core.Path.{_≡_, refl, sym, ap, _∙_, subst}
 use mathlib.Core.Bool.{Bool, true, false}
 use mathlib.Core.List.{List, [], _∷_, _++_, map, append-nil}
 use lib.ListN.{length, getD, take}
-use Rattle.meaning.specs.Clauses.{Literal, pos, neg, Clause}
+use Rattle.meaning.specs.Clauses.{pos, neg, Clause}
 use Rattle.meaning.specs.Meaning.{at-marks, lemmas-of}
 use Rattle.meaning.specs.Meaning
 use Rattle.meaning.specs.File.{two-at, literals}
 use Rattle.meaning.specs.Search.{blank, search-from, searched}
 use Rattle.meaning.specs.Rules.{denied, next, lemma, clauses, width, answer, asked}
 use Rattle.meaning.specs.Rules
-use Rattle.laws.specs.Within.{ClauseWithin, Within, WellFormed}
+use Rattle.laws.specs.Within.{ClauseWithin}
 use Rattle.laws.specs.Range.{clause-wider, within-wider}
-use Rattle.laws.specs.Setting.{unset-count, unset-blank}
+use Rattle.laws.specs.Setting.{unset-blank}
 use Rattle.laws.specs.Questions.{next-within, lemma-within, clauses-within}
 use Rattle.laws.specs.Wider.{wider}
 use Rattle.format.specs.declared.Problem.{Problem}
 use Rattle.format.specs.Section.{next-record, clause-at, section, Inside, problem-at, Placed}
-use Rattle.search.specs.declared.Parts.{Parts}
 use Rattle.search.specs.declared.Question.{Question}
 use Rattle.search.specs.declared.Question.the-variants.{Initiation, Step, Safety}
-use Rattle.search.specs.Forms.{question-of}
 use Rattle.search.specs.Engine.{search-at}
-use Rattle.search.specs.Places.{Records, Denials, Sound, parts-clauses, place, Asks}
+use Rattle.search.specs.Places.{Records, Denials, parts-clauses, place, Asks}
 use Rattle.search.proofs.PlaceLaws.{pred-suc, marks-none, half-twice}
 
 pub place-more : (file : List ℕ) (at left : ℕ) → 0 < left → place file at left ≡ place file (next-record file at) (left - 1)

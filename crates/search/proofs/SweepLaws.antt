@@ -10,8 +10,8 @@ use mathlib.Core.List.{List, [], _∷_, _++_}
 use lib.ListN.{length}
 use Rattle.meaning.specs.Clauses.{Literal, Clause, variable, negation, any, all}
 use Rattle.meaning.specs.Demands.{In}
-use Rattle.meaning.specs.Search.{Setting, value, with-literal, has-true, only-false, unset-places, only-place, forced-by, first-place, open-in, or-else, first-of, Ending, can, cannot, lost, after, then-false, search-from}
-use Rattle.laws.specs.Basics.{bool-cases, not-both, not-true-is-false, all-at}
+use Rattle.meaning.specs.Search.{Setting, with-literal, has-true, only-false, unset-places, only-place, forced-by, first-place, open-in, or-else, first-of, Ending, can, cannot, lost, after, then-false, search-from}
+use Rattle.laws.specs.Basics.{bool-cases, not-true-is-false, all-at}
 use Rattle.laws.specs.Within.{Within}
 use Rattle.laws.specs.Setting.{unset-count, variable-negation, unset-both, length-with, unset-fewer}
 use Rattle.laws.specs.Moves

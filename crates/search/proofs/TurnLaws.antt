@@ -1,7 +1,7 @@
 -- One turn of a pass over clauses that are read in place: a record, a literal that is denied.
-use Prim.Native.Nat.{ℕ, zero, suc, _+_, _-_, _*_, _/_, _≤_, _<_}
+use Prim.Native.Nat.{ℕ, _+_, _-_, _/_, _≤_, _<_}
 use native.Mathlib.Omega.{arith}
-use mathlib.Core.Path.{_≡_, refl, sym, ap, _∙_, subst}
+use mathlib.Core.Path.{_≡_, sym, ap, _∙_, subst}
 use mathlib.Core.Bool.{Bool, true, false}
 use mathlib.Core.List.{List, [], _∷_, map}
 use lib.ListN.{length, getD, drop}
@@ -14,7 +14,7 @@ use Rattle.laws.specs.Within.{ClauseWithin}
 use Rattle.format.specs.Section.{next-record, clause-at, section}
 use Rattle.format.specs.Forms.{literal-of}
 use Rattle.search.specs.Sweep as spec
-use Rattle.search.specs.Sweep.{Pass, status, met-on, set-by, meet, sweep}
+use Rattle.search.specs.Sweep.{Pass, status, met-on, set-by, sweep}
 use Rattle.search.specs.declared.Next.{Next}
 use Rattle.search.specs.declared.Status.{Status}
 use Rattle.search.specs.declared.Status.the-variants.{One}

@@ -1,5 +1,5 @@
 -- The search from a setting, and what a pass over its clauses that sets no literal more says of it.
-use Prim.Native.Nat.{ℕ, _<_}
+use Prim.Native.Nat.{_<_}
 use mathlib.Core.Path.{_≡_}
 use mathlib.Core.List.{List}
 use lib.ListN.{length}

@@ -1,8 +1,8 @@
 -- Where a question's clauses stand in a file, and what makes them safe to read there.
-use Prim.Native.Nat.{ℕ, zero, suc, _+_, _*_, _≤_, _<_}
+use Prim.Native.Nat.{ℕ, zero, suc, _+_, _*_, _≤_}
 use mathlib.Core.Path.{_≡_}
 use mathlib.Core.Bool.{Bool}
-use mathlib.Core.List.{List, [], _∷_, _++_, map}
+use mathlib.Core.List.{List, _++_, map}
 use lib.ListN.{length, take}
 use Rattle.meaning.specs.Clauses.{Clause}
 use Rattle.meaning.specs.Meaning.{at-marks}

@@ -67,7 +67,7 @@ fn forced(n: Next) -> Next
     }
 }
 
-// After a clause with several unset places: the first such clause names the literal to try.
+// After a clause with several unset places: rule (d) tries the first unset literal of the first such clause.
 fn opened(n: Next, l: Literal) -> Next
     ensures { λ r. ⌜ ((v : Partial) → «pass-at» r v ≡ spec.«met-on» (spec.more («literal-of» l)) («pass-at» n v)) ⌝ }
 {

@@ -33,7 +33,8 @@ fn sweep_all(file: &[u8], on: &[bool; 128], q: Parts, setting: Setting) -> Pass
     sweep_denied(file, q.denied_at, q.denied_count, q.added, last)
 }
 
-// Passes over the clauses until one forces no literal. Forced literals may be set in any order.
+// Rule (c), as long as it serves: a clause with no true literal and exactly one place holding an unset literal has that literal set true, not
+// counted. Forced literals may be set in any order, so a pass sets all that it meets; the last pass forces none.
 fn propagate(file: &[u8], on: &[bool; 128], q: Parts, start: Setting) -> Pass
     requires { ⌜ Sound (now file) q × (length («setting-of» start) ≡ 513) ⌝ }
     ensures { λ r. ⌜ Ready («parts-clauses» (now (file .entry)) (now (on .entry)) q) («setting-of» start) («pass-of» r) ⌝ }
@@ -58,7 +59,7 @@ fn negated(l: Literal) -> Literal
     }
 }
 
-// The answer at a setting where nothing is left to try: every clause has a true literal, or one has only false ones.
+// The answer at a setting where nothing is left to try: by rule (b) every clause has a true literal, or by rule (a) one has only false ones.
 fn ended(n: Next) -> Found
     ensures { λ r. ⌜ r ≡ «ended-by» n ⌝ }
 {
@@ -82,8 +83,8 @@ fn counted(f: Found, more: u64) -> Found
     }
 }
 
-// The search from a setting. Each try is one decision; one that is wanted when nothing is left ends it. A closed try goes back to the setting as
-// it stood before.
+// The search from a setting. Rule (d): try the literal true, then, if that branch closes, false, from the setting as it stood before. Each try is
+// one decision, and a decision wanted when the budget is used up ends the search.
 pub fn decide(file: &[u8], on: &[bool; 128], q: Parts, start: Setting, left: u64) -> Found
     requires { ⌜ Sound (now file) q × (length («setting-of» start) ≡ 513) ⌝ }
     ensures { λ r. ⌜ r ≡ bounded left (answer («search-at» («parts-clauses» (now (file .entry)) (now (on .entry)) q) («setting-of» start))) ⌝ }
@@ -94,6 +95,7 @@ pub fn decide(file: &[u8], on: &[bool; 128], q: Parts, start: Setting, left: u64
     let Next::Try(l) = next else {
         return ended(next);
     };
+    let other = negated(l);
     if left == 0 {
         return Found::Spent;
     }
@@ -104,6 +106,6 @@ pub fn decide(file: &[u8], on: &[bool; 128], q: Parts, start: Setting, left: u64
     if left - 1 == used {
         return Found::Spent;
     }
-    let no = decide(file, on, q, setting.with(negated(l)), left - 2 - used);
+    let no = decide(file, on, q, setting.with(other), left - 2 - used);
     counted(no, used + 2)
 }

@@ -1,9 +1,9 @@
 -- `ask` meets its contract: the search of the question's clauses from the setting in which all is unset.
 use borrow.Author.Needs.{needs}
-use mathlib.Core.Path.{_≡_, ap, _∙_}
+use mathlib.Core.Path.{ap, _∙_}
 use lib.ListN.{length}
-use Rattle.meaning.specs.Search.{Setting, blank}
-use Rattle.meaning.specs.Rules.{Answer, answer}
+use Rattle.meaning.specs.Search.{Setting}
+use Rattle.meaning.specs.Rules.{answer}
 use Rattle.laws.specs.Setting.{length-blank}
 use Rattle.search.specs.Forms.{marks-at, question-of, bounded}
 use Rattle.search.specs.Places.{parts-clauses}

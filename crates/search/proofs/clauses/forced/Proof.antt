@@ -1,42 +1,33 @@
+-- `forced` meets its contract.
 use borrow.Author.Needs.{needs}
 use Rattle.search.specs.Sweep.{opened, met-by, met-on, set-by}
 use Rattle.search.proofs.clauses.forced.Statement.{statement}
 use Rattle.search.proofs.clauses.forced.Tie as tie
-use Rattle.search.proofs.clauses.forced.Reads as reads
-use Rattle.search.proofs.clauses.forced.Lts as lts
 
--- src/clauses.rt:56:28
 enum-told : tie.Need-enum-told
 enum-told c = search needs
 
--- src/clauses.rt:57:25
 enum-told-2 : tie.Need-enum-told-2
 enum-told-2 c = search needs
 
--- src/clauses.rt:58:25
 enum-told-3 : tie.Need-enum-told-3
 enum-told-3 c = search needs
 
--- src/clauses.rt:59:25
 enum-told-4 : tie.Need-enum-told-4
 enum-told-4 c = search needs
 
--- src/clauses.rt:52:1
 returns : tie.Need-returns
 unfolding met-on met-by opened set-by
 returns c l v = rw (c .enum-told .given .1)
 
--- src/clauses.rt:52:1
 returns-2 : tie.Need-returns-2
 unfolding met-on met-by opened set-by
 returns-2 c l v = rw (c .enum-told2 .given .1)
 
--- src/clauses.rt:52:1
 returns-3 : tie.Need-returns-3
 unfolding met-on met-by opened set-by
 returns-3 c l v = rw (c .enum-told3 .given .1)
 
--- src/clauses.rt:52:1
 returns-4 : tie.Need-returns-4
 unfolding met-on met-by opened set-by
 returns-4 c l v = rw (c .enum-told4 .given .1)

@@ -1,3 +1,4 @@
+-- `heard` meets its contract.
 use borrow.Author.Needs.{needs}
 use Rattle.format.specs.Forms.{literal-of}
 use Rattle.search.specs.Sweep.{set-by}
@@ -5,51 +6,37 @@ use Rattle.search.specs.Forms.{pass-at}
 use Rattle.search.proofs.SweepLaws.{met-nothing, met-failed}
 use Rattle.search.proofs.clauses.heard.Statement.{statement}
 use Rattle.search.proofs.clauses.heard.Tie as tie
-use Rattle.search.proofs.clauses.heard.Reads as reads
-use Rattle.search.proofs.clauses.heard.Lts as lts
-use Rattle.search.proofs.clauses.forced.Reads as forced-reads
-use Rattle.search.proofs.clauses.opened.Reads as opened-reads
 
--- src/clauses.rt:80:26
 enum-told : tie.Need-enum-told
 enum-told c = search needs
 
--- src/clauses.rt:81:26
 enum-told-2 : tie.Need-enum-told-2
 enum-told-2 c = search needs
 
--- src/clauses.rt:82:27
 enum-told-3 : tie.Need-enum-told-3
 enum-told-3 c = search needs
 
--- src/clauses.rt:82:27
 forced-requires : tie.Need-forced-requires
 forced-requires c κs = search needs
 
--- src/clauses.rt:83:22
 enum-known-s : tie.Need-enum-known-s
 enum-known-s c = search needs
 
--- src/clauses.rt:83:28
 opened-requires : tie.Need-opened-requires
 opened-requires c κs = search needs
 
--- src/clauses.rt:76:1
 returns : tie.Need-returns
 unfolding set-by
 returns c v = rw (c .enum-told .given .1) (met-nothing (pass-at (c .before .before .args .n) v))
 
--- src/clauses.rt:76:1
 returns-2 : tie.Need-returns-2
 unfolding set-by
 returns-2 c v = rw (c .enum-told2 .given .1) (met-failed (pass-at (c .before .before .args .n) v))
 
--- src/clauses.rt:76:1
 returns-3 : tie.Need-returns-3
 unfolding set-by
 returns-3 c v = rw (c .before .enum-told3 .given .1) (c .forced .ensures (literal-of (c .before .enum-told3 .given .0 .0)) v)
 
--- src/clauses.rt:76:1
 returns-4 : tie.Need-returns-4
 unfolding set-by
 returns-4 c v = rw (c .before .before .s .given .1) (c .opened .ensures v)

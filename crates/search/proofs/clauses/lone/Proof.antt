@@ -1,6 +1,6 @@
 -- `lone` meets its contract: the clause's status goes by the one literal's value.
 use borrow.Author.Needs.{needs}
-use mathlib.Core.Path.{_≡_, sym, ap, _∙_}
+use mathlib.Core.Path.{sym, ap, _∙_}
 use mathlib.Core.List.{[]}
 use Rattle.format.specs.Forms.{literal-of}
 use Rattle.search.specs.Sweep.{failed, seen, status, status-from}

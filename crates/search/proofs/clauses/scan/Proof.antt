@@ -1,10 +1,7 @@
 -- `scan` meets its contract. The loop's invariant: the status of the whole clause is that of the literals left, after what was seen.
-use Prim.Native.Nat.{ℕ, _+_, _-_, _≤_, _<_}
+use Prim.Native.Nat.{_+_, _-_}
 use native.Mathlib.Omega.{arith}
-use borrow.Author.Needs.{needs}
-use mathlib.Core.Path.{_≡_, refl, sym, ap, _∙_, subst}
-use mathlib.Core.List.{[]}
-use Rattle.meaning.specs.Clauses.{variable}
+use mathlib.Core.Path.{_≡_, refl, sym, ap, _∙_}
 use Rattle.meaning.specs.Clauses
 use Rattle.meaning.specs.File.{literals}
 use Rattle.format.specs.Forms.{literal-of}

@@ -1,17 +1,16 @@
 -- `sweep_denied` meets its contract. The loop's invariant: the whole pass comes to the pass over the literals left, from where it stands.
-use Prim.Native.Nat.{ℕ, _+_, _-_, _≤_, _<_}
+use Prim.Native.Nat.{_+_, _-_, _≤_}
 use native.Mathlib.Omega.{arith}
-use mathlib.Core.Path.{_≡_, refl, sym, ap, _∙_, subst}
+use mathlib.Core.Path.{_≡_, refl, sym, ap, _∙_}
 use mathlib.Core.List.{List, [], _∷_, map}
 use Rattle.meaning.specs.Clauses.{Literal, Clause, variable, negation}
 use Rattle.meaning.specs.Rules.{denied, next}
 use Rattle.meaning.specs.File.{literal-at, literals}
 use Rattle.laws.specs.Within.{ClauseWithin}
 use Rattle.format.specs.Forms.{literal-of}
-use Rattle.search.specs.declared.Setting as Code
 use Rattle.search.specs.declared.Next.{Next}
 use Rattle.search.specs.Sweep.{closed, status, sweep, set-by}
-use Rattle.search.specs.Forms.{setting-of, status-of, pass-at}
+use Rattle.search.specs.Forms.{setting-of, pass-at}
 use Rattle.search.specs.Places.{Denials}
 use Rattle.search.proofs.PlaceLaws.{denied-done, denial-inside, denial-range, denial-within, denials-next}
 use Rattle.search.proofs.SweepLaws.{sweep-closed, set-by-other}
@@ -110,41 +109,20 @@ with-requires c κs =
 loop-less : tie.Need-loop-less Inv-loop μ-loop
 loop-less c = omega arith
 
--- the pass over what is left, after the literal
-again : (c : tie.After-heard Inv-loop μ-loop) (u : Code.Setting)
-    → setting-of u
-    ≡ set-by (status-of (c .before .lone .result)) (setting-of (c .before .before .before .before .before .before .before .before .loop .setting))
-    → sweep
-    (denied (map (next (c .before .before .before .before .before .before .before .before .before .before .before .args .added))
-    (literals (c .before .before .before .before .before .before .before .before .before .before .before .args .file .now)
-    (c .before .before .before .before .before .before .before .before .loop .at) (c .before .before .before .before .before .before .before .before .loop .left))))
-    (pass-at (c .before .before .before .before .before .before .before .before .loop .next)
-    (setting-of (c .before .before .before .before .before .before .before .before .loop .setting)))
-    ≡ sweep
-    (denied (map (next (c .before .before .before .before .before .before .before .before .before .before .before .args .added))
-    (literals (c .before .before .before .before .before .before .before .before .before .before .before .args .file .now)
-    (c .before .before .before .before .before .before .before .before .loop .at + 2)
-    (c .before .before .before .before .before .before .before .before .loop .left - 1))))
-    (pass-at (c .heard .result) (setting-of u))
-again c u set =
-    let denial = c .before .before .before .before in
-    let loop = denial .before .before .before .before in
-    let start = loop .before .before .before in
-    let v = setting-of (loop .loop .setting) in
-    denial-turn (start .args .file .now) (loop .loop .at) (loop .loop .left) (start .args .added) (denial .before .before .before .loop-test .taken)
-    (loop .loop .inv .0) (loop .loop .next) (c .heard .result) (c .before .lone .result) v (setting-of u)
-    (c .before .lone .ensures ∙ ap (λ (l : Literal). status v (l ∷ [])) (denied-literal denial)) (c .heard .ensures) set
-
 loop-again : tie.Need-loop-again Inv-loop μ-loop
 unfolding set-by
 loop-again c =
     let heard = c .before .before .before .before in
     let denial = heard .before .before .before .before in
-    let loop = denial .before .before .before .before in (
+    let loop = denial .before .before .before .before in
+    let start = loop .before .before .before in
+    let v = setting-of (loop .loop .setting) in (
       next-denials denial,
       loop .loop .inv .1 ∙
-          again heard (c .with .result)
-          (set-one (setting-of (loop .loop .setting)) (setting-of (c .with .result)) (heard .before .lone .result) (c .before .before .status .given .0 .0)
+          denial-turn (start .args .file .now) (loop .loop .at) (loop .loop .left) (start .args .added) (denial .before .before .before .loop-test .taken)
+          (loop .loop .inv .0) (loop .loop .next) (heard .heard .result) (heard .before .lone .result) v (setting-of (c .with .result))
+          (heard .before .lone .ensures ∙ ap (λ (l : Literal). status v (l ∷ [])) (denied-literal denial)) (heard .heard .ensures)
+          (set-one v (setting-of (c .with .result)) (heard .before .lone .result) (c .before .before .status .given .0 .0)
           (c .before .before .status .given .1) (c .with .ensures)),
     )
 
@@ -153,12 +131,17 @@ loop-less-2 c = omega arith
 
 loop-again-2 : tie.Need-loop-again-2 Inv-loop μ-loop
 loop-again-2 c =
-    let denial = c .before .before .before .before .before in
-    let loop = denial .before .before .before .before in (
+    let heard = c .before in
+    let denial = heard .before .before .before .before in
+    let loop = denial .before .before .before .before in
+    let start = loop .before .before .before in
+    let v = setting-of (loop .loop .setting) in (
       next-denials denial,
       loop .loop .inv .1 ∙
-          again (c .before) (loop .loop .setting)
-          (set-by-other (c .before .before .lone .result) (setting-of (loop .loop .setting)) (c .match2 .keys2)),
+          denial-turn (start .args .file .now) (loop .loop .at) (loop .loop .left) (start .args .added) (denial .before .before .before .loop-test .taken)
+          (loop .loop .inv .0) (loop .loop .next) (heard .heard .result) (heard .before .lone .result) v v
+          (heard .before .lone .ensures ∙ ap (λ (l : Literal). status v (l ∷ [])) (denied-literal denial)) (heard .heard .ensures)
+          (set-by-other (heard .before .lone .result) v (c .match2 .keys2)),
     )
 
 returns-2 : tie.Need-returns-2 Inv-loop μ-loop

@@ -1,19 +1,16 @@
 -- `sweep_marked` meets its contract. The loop's invariant: the whole pass comes to the pass over the lemmas left, from where it stands.
 use Prim.Native.Nat.{ℕ, _+_, _-_, _/_, _≤_, _<_}
-use native.Mathlib.Nat.{sub-zero}
 use native.Mathlib.Omega.{arith}
-use mathlib.Core.Path.{_≡_, refl, sym, ap, _∙_, subst}
-use mathlib.Core.Bool.{Bool, true, false}
-use mathlib.Core.List.{List, []}
-use lib.ListN.{length, getD}
+use mathlib.Core.Path.{_≡_, sym, ap, _∙_, subst}
+use mathlib.Core.List.{List}
+use lib.ListN.{length}
 use Rattle.meaning.specs.Clauses.{Clause}
 use Rattle.meaning.specs.Meaning.{at-marks}
 use Rattle.meaning.specs.File.{literals}
 use Rattle.format.specs.Section.{section}
-use Rattle.search.specs.declared.Setting as Code
 use Rattle.search.specs.declared.Next.{Next}
 use Rattle.search.specs.Sweep.{closed, sweep, set-by}
-use Rattle.search.specs.Forms.{setting-of, status-of, pass-at}
+use Rattle.search.specs.Forms.{setting-of, pass-at}
 use Rattle.search.specs.Places.{Records, Literals}
 use Rattle.search.proofs.PlaceLaws.{record-inside}
 use Rattle.search.proofs.SweepLaws.{sweep-closed, set-by-other}

@@ -1,25 +1,21 @@
 -- `sweep_records` meets its contract. The loop's invariant: the whole pass comes to the pass over the records left, from where it stands.
-use Prim.Native.Nat.{ℕ, _+_, _-_, _/_, _≤_, _<_}
+use Prim.Native.Nat.{_+_, _-_, _/_, _≤_}
 use native.Mathlib.Omega.{arith}
-use mathlib.Core.Path.{_≡_, refl, sym, ap, _∙_, subst}
-use mathlib.Core.Logic.{inl, inr}
-use mathlib.Core.List.{List, []}
+use mathlib.Core.Path.{_≡_, refl, sym, ap, _∙_}
+use mathlib.Core.List.{List}
 use lib.ListN.{length}
 use Rattle.meaning.specs.Clauses.{Clause}
 use Rattle.meaning.specs.File.{literals}
 use Rattle.format.specs.Section.{section}
-use Rattle.search.specs.declared.Setting as Code
 use Rattle.search.specs.declared.Next.{Next}
 use Rattle.search.specs.Sweep.{closed, sweep, set-by}
-use Rattle.search.specs.Forms.{setting-of, status-of, pass-at}
+use Rattle.search.specs.Forms.{setting-of, pass-at}
 use Rattle.search.specs.Places.{Records, Literals}
 use Rattle.search.proofs.PlaceLaws.{section-done, record-inside}
 use Rattle.search.proofs.SweepLaws.{sweep-closed, set-by-other}
 use Rattle.search.proofs.TurnLaws.{record-fits, record-clause, records-after, record-turn, one-below, set-one}
 use Rattle.search.proofs.clauses.sweep_records.Statement.{statement}
 use Rattle.search.proofs.clauses.sweep_records.Tie as tie
-use Rattle.search.proofs.clauses.sweep_records.Reads as reads
-use Rattle.search.proofs.clauses.sweep_records.Lts as lts
 
 abbrev Inv-loop : tie.InvT-loop
 Inv-loop file start count setting₀ next₀ at₀ left₀ setting next at left =
@@ -69,31 +65,13 @@ clause c =
     record-clause (loop .before .before .before .args .file .now) (loop .loop .at) (loop .loop .left) (c .before .before .loop-test .taken)
     (loop .loop .inv .0) (c .two-at .result) (c .two-at .ensures .0)
 
--- the invariant after it
-again : (c : tie.After-heard Inv-loop μ-loop) (u : Code.Setting)
-    → setting-of u
-    ≡ set-by (status-of (c .before .scan .result)) (setting-of (c .before .before .before .before .before .before .before .loop .setting))
-    → Inv-loop (c .before .before .before .before .before .before .before .before .before .before .args .file .now)
-    (c .before .before .before .before .before .before .before .before .before .before .args .start)
-    (c .before .before .before .before .before .before .before .before .before .before .args .count)
-    (c .before .before .before .before .before .before .before .before .before .before .args .p .setting)
-    (c .before .before .before .before .before .before .before .before .before .before .args .p .next)
-    (c .before .before .before .before .before .before .before .before .before .before .args .start)
-    (c .before .before .before .before .before .before .before .before .before .before .args .count)
-    u (c .heard .result)
-    (c .before .before .before .before .before .before .before .loop .at + 4 + c .before .before .before .before .two-at .result)
-    (c .before .before .before .before .before .before .before .loop .left - 1)
-again c u set =
-    let two = c .before .before .before .before in
-    let loop = two .before .before .before in
-    let file = loop .before .before .before .args .file .now in
-    let h = two .before .before .loop-test .taken in (
-      records-after file (loop .loop .at) (loop .loop .left) h (loop .loop .inv .0) (two .two-at .result) (two .two-at .ensures .0),
-      loop .loop .inv .1 ∙
-          record-turn file (loop .loop .at) (loop .loop .left) h (loop .loop .inv .0) (two .two-at .result) (two .two-at .ensures .0)
-          (loop .loop .next) (c .heard .result) (c .before .scan .result) (setting-of (loop .loop .setting)) (setting-of u)
-          (c .before .scan .ensures) (c .heard .ensures) set,
-    )
+records : (c : tie.After-two-at Inv-loop μ-loop)
+    → Records (c .before .before .before .before .before .before .args .file .now) (c .before .before .before .loop .at + 4 + c .two-at .result)
+    (c .before .before .before .loop .left - 1)
+records c =
+    let loop = c .before .before .before in
+    records-after (loop .before .before .before .args .file .now) (loop .loop .at) (loop .loop .left) (c .before .before .loop-test .taken)
+    (loop .loop .inv .0) (c .two-at .result) (c .two-at .ensures .0)
 
 add-scan : tie.Need-add-scan Inv-loop μ-loop
 add-scan c = omega (arith, fits c)
@@ -131,18 +109,33 @@ loop-again : tie.Need-loop-again Inv-loop μ-loop
 unfolding set-by
 loop-again c =
     let heard = c .before .before .before .before in
-    again heard (c .with .result)
-    (set-one (setting-of (heard .before .before .before .before .before .before .before .loop .setting)) (setting-of (c .with .result))
-    (heard .before .scan .result) (c .before .before .status .given .0 .0) (c .before .before .status .given .1) (c .with .ensures))
+    let two = heard .before .before .before .before in
+    let loop = two .before .before .before in
+    let v = setting-of (loop .loop .setting) in (
+      records two,
+      loop .loop .inv .1 ∙
+          record-turn (loop .before .before .before .args .file .now) (loop .loop .at) (loop .loop .left) (two .before .before .loop-test .taken)
+          (loop .loop .inv .0) (two .two-at .result) (two .two-at .ensures .0) (loop .loop .next) (heard .heard .result) (heard .before .scan .result) v
+          (setting-of (c .with .result)) (heard .before .scan .ensures) (heard .heard .ensures)
+          (set-one v (setting-of (c .with .result)) (heard .before .scan .result) (c .before .before .status .given .0 .0)
+          (c .before .before .status .given .1) (c .with .ensures)),
+    )
 
 loop-less-2 : tie.Need-loop-less-2 Inv-loop μ-loop
 loop-less-2 c = omega arith
 
 loop-again-2 : tie.Need-loop-again-2 Inv-loop μ-loop
 loop-again-2 c =
-    let loop = c .before .before .before .before .before .before .before .before in
-    again (c .before) (loop .loop .setting)
-    (set-by-other (c .before .before .scan .result) (setting-of (loop .loop .setting)) (c .match2 .keys2))
+    let heard = c .before in
+    let two = heard .before .before .before .before in
+    let loop = two .before .before .before in
+    let v = setting-of (loop .loop .setting) in (
+      records two,
+      loop .loop .inv .1 ∙
+          record-turn (loop .before .before .before .args .file .now) (loop .loop .at) (loop .loop .left) (two .before .before .loop-test .taken)
+          (loop .loop .inv .0) (two .two-at .result) (two .two-at .ensures .0) (loop .loop .next) (heard .heard .result) (heard .before .scan .result) v v
+          (heard .before .scan .ensures) (heard .heard .ensures) (set-by-other (heard .before .scan .result) v (c .match2 .keys2)),
+    )
 
 returns-2 : tie.Need-returns-2 Inv-loop μ-loop
 unfolding sweep

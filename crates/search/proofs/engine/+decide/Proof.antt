@@ -2,7 +2,7 @@
 use Prim.Native.Nat.{ℕ, _+_, _-_, _≤_, _<_}
 use native.Mathlib.Omega.{arith}
 use native.Mathlib.Nat.{pos-of-ne-zero}
-use mathlib.Core.Path.{_≡_, refl, sym, ap, _∙_, subst}
+use mathlib.Core.Path.{_≡_, sym, ap, _∙_, subst}
 use mathlib.Core.List.{List}
 use lib.ListN.{length}
 use borrow.Fn.Kinds.{In}
@@ -46,14 +46,14 @@ claims t = (
   propagate-reads.Learnt,
   ended-reads.Asked,
   ended-reads.Learnt,
+  negated-reads.Asked,
+  negated-reads.Learnt,
   with-reads.Asked,
   with-reads.Learnt,
   decide-below t,
   decide.Post,
   counted-reads.Asked,
   counted-reads.Learnt,
-  negated-reads.Asked,
-  negated-reads.Learnt,
 )
 
 decide-propagate-requires : (t : ℕ) → lts.Need-propagate-requires (claims t) (decide-at t) decide.Post
@@ -107,14 +107,17 @@ sized t c = start t c .pre .1 .1
 range : (t : ℕ) (c : Trying t) → variable (l t c) < 513
 range t c = try-range (cs t (start t c)) (in-range t (start t c)) (v t (start t c)) (u t c) (sized t c) (l t c) (ready t c)
 
+decide-negated-requires : (t : ℕ) → lts.Need-negated-requires (claims t) (decide-at t) decide.Post
+decide-negated-requires t c κs = tt
+
 decide-returns-2 : (t : ℕ) → lts.Need-returns-2 (claims t) (decide-at t) decide.Post
 decide-returns-2 t c =
-    let k = c .before in
+    let k = c .before .before in
     let s = start t k in
     try-spent (cs t s) (in-range t s) (v t s) (u t k) (sized t k) (l t k) (ready t k) (s .args .left) (c .if1 .taken)
 
 decide-with-requires : (t : ℕ) → lts.Need-with-requires (claims t) (decide-at t) decide.Post
-decide-with-requires t c κs = range t (c .before)
+decide-with-requires t c κs = range t (c .before .before)
 
 decide-sub-decide : (t : ℕ) → lts.Need-sub-decide (claims t) (decide-at t) decide.Post
 decide-sub-decide t c = pos-of-ne-zero (c .before .if1 .left)
@@ -131,7 +134,7 @@ asked t c m w e h = (
 
 decide-decide-requires : (t : ℕ) → lts.Need-decide-requires (claims t) (decide-at t) decide.Post
 decide-decide-requires t c κs =
-    let k = c .before .before in
+    let k = c .before .before .before in
     let a = asked t k (l t k) (setting-of (c .with .result)) (c .with .ensures) (ready t k .2) in
     (a .0, (start t k .pre .1 .0, a .1))
 
@@ -143,7 +146,7 @@ abbrev Tried : ℕ → Type 0
 Tried t = lts.After-decide (claims t) (decide-at t) decide.Post
 
 abbrev trying : (t : ℕ) → Tried t → Trying t
-trying t c = c .before .before .before
+trying t c = c .before .before .before .before
 
 first : (t : ℕ) (c : Tried t)
     → c .decide .result
@@ -182,9 +185,6 @@ decide-returns-4 t c =
     try-wanted (cs t s) (in-range t s) (v t s) (u t k) (sized t k) (l t k) (ready t k) (s .args .left) (d .before .before .if1 .left)
     (d .decide .result) (first t d) (c .before .before .yes .given .0 .0) (c .before .before .yes .given .1) (c .if2 .taken)
 
-decide-negated-requires : (t : ℕ) → lts.Need-negated-requires (claims t) (decide-at t) decide.Post
-decide-negated-requires t c κs = tt
-
 -- the second try
 abbrev Second : ℕ → Type 0
 Second t = lts.Else2 (claims t) (decide-at t) decide.Post
@@ -205,44 +205,45 @@ room t c =
 
 decide-with-requires-2 : (t : ℕ) → lts.Need-with-requires-2 (claims t) (decide-at t) decide.Post
 decide-with-requires-2 t c κs =
-    let k = trying t (tried t (c .before)) in
-    rw (c .negated .ensures) (rw variable-negation (range t k))
+    let d = tried t c in
+    rw (d .before .before .before .negated .ensures) (rw variable-negation (range t (trying t d)))
 
 decide-sub-decide-2 : (t : ℕ) → lts.Need-sub-decide-2 (claims t) (decide-at t) decide.Post
-decide-sub-decide-2 t c = omega (arith, room t (c .before .before))
+decide-sub-decide-2 t c = omega (arith, room t (c .before))
 
 decide-sub-decide-3 : (t : ℕ) → lts.Need-sub-decide-3 (claims t) (decide-at t) decide.Post
-decide-sub-decide-3 t c = omega (arith, room t (c .before .before))
+decide-sub-decide-3 t c = omega (arith, room t (c .before))
 
 set-false : (t : ℕ) (c : lts.After-with2 (claims t) (decide-at t) decide.Post)
-    → setting-of (c .with2 .result)
-    ≡ with-literal (u t (trying t (tried t (c .before .before)))) (negation (l t (trying t (tried t (c .before .before)))))
-set-false t c = c .with2 .ensures ∙ ap (with-literal (u t (trying t (tried t (c .before .before))))) (c .before .negated .ensures)
+    → setting-of (c .with2 .result) ≡ with-literal (u t (trying t (tried t (c .before)))) (negation (l t (trying t (tried t (c .before)))))
+set-false t c =
+    let d = tried t (c .before) in
+    c .with2 .ensures ∙ ap (with-literal (u t (trying t d))) (d .before .before .before .negated .ensures)
 
 decide-decide-requires-2 : (t : ℕ) → lts.Need-decide-requires-2 (claims t) (decide-at t) decide.Post
 decide-decide-requires-2 t c κs =
-    let k = trying t (tried t (c .before .before)) in
+    let k = trying t (tried t (c .before)) in
     let a = asked t k (negation (l t k)) (setting-of (c .with2 .result)) (set-false t c) (ready t k .3) in
     (a .0, (start t k .pre .1 .0, a .1))
 
 decide-add-counted : (t : ℕ) → lts.Need-add-counted (claims t) (decide-at t) decide.Post
 decide-add-counted t c =
-    let e = c .before .before .before in
+    let e = c .before .before in
     omega (arith, room t e, start t (trying t (tried t e)) .fits .left)
 
 second : (t : ℕ) (c : lts.After-decide2 (claims t) (decide-at t) decide.Post)
     → c .decide2 .result
-    ≡ bounded (start t (trying t (tried t (c .before .before .before))) .args .left - 2 - used t (c .before .before .before))
-    (answer (search-at (cs t (start t (trying t (tried t (c .before .before .before)))))
-    (with-literal (u t (trying t (tried t (c .before .before .before)))) (negation (l t (trying t (tried t (c .before .before .before))))))))
+    ≡ bounded (start t (trying t (tried t (c .before .before))) .args .left - 2 - used t (c .before .before))
+    (answer (search-at (cs t (start t (trying t (tried t (c .before .before)))))
+    (with-literal (u t (trying t (tried t (c .before .before)))) (negation (l t (trying t (tried t (c .before .before))))))))
 second t c =
-    let e = c .before .before .before in
+    let e = c .before .before in
     let s = start t (trying t (tried t e)) in
     c .decide2 .ensures ∙ ap (λ (w : Setting). bounded (s .args .left - 2 - used t e) (answer (search-at (cs t s) w))) (set-false t (c .before))
 
 decide-counted-requires-2 : (t : ℕ) → lts.Need-counted-requires-2 (claims t) (decide-at t) decide.Post
 decide-counted-requires-2 t c κs =
-    let e = c .before .before .before in
+    let e = c .before .before in
     let k = trying t (tried t e) in
     let s = start t k in
     bounded-counts (s .args .left - 2 - used t e) (answer (search-at (cs t s) (with-literal (u t k) (negation (l t k))))) (used t e + 2)
@@ -250,7 +251,7 @@ decide-counted-requires-2 t c κs =
 
 decide-returns-5 : (t : ℕ) → lts.Need-returns-5 (claims t) (decide-at t) decide.Post
 decide-returns-5 t c =
-    let e = c .before .before .before .before in
+    let e = c .before .before .before in
     let d = tried t e in
     let k = trying t d in
     let s = start t k in
@@ -266,6 +267,7 @@ pub +decide-spec : {M : Type 1} → statement M
     (decide-enum-known-next t)
     (decide-ended-requires t)
     (decide-returns t)
+    (decide-negated-requires t)
     (decide-returns-2 t)
     (decide-with-requires t)
     (decide-sub-decide t)
@@ -275,7 +277,6 @@ pub +decide-spec : {M : Type 1} → statement M
     (decide-returns-3 t)
     (decide-sub-if2 t)
     (decide-returns-4 t)
-    (decide-negated-requires t)
     (decide-with-requires-2 t)
     (decide-sub-decide-2 t)
     (decide-sub-decide-3 t)

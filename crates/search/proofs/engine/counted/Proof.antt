@@ -1,6 +1,5 @@
 -- `counted` meets its contract.
 use borrow.Author.Needs.{needs}
-use native.Mathlib.Omega.{arith}
 use Rattle.search.proofs.engine.counted.Statement.{statement}
 use Rattle.search.proofs.engine.counted.Tie as tie
 

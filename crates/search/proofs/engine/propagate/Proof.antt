@@ -1,12 +1,12 @@
 -- `propagate` meets its contract. The loop's invariant: the search from where it stands is the search from the start.
-use Prim.Native.Nat.{ℕ, _≤_, _<_}
+use Prim.Native.Nat.{_≤_}
 use native.Mathlib.Nat.{le-refl}
 use native.Mathlib.Omega.{arith}
-use mathlib.Core.Path.{_≡_, refl, sym, ap, _∙_, subst}
+use mathlib.Core.Path.{_≡_, refl, sym, _∙_, subst}
 use lib.ListN.{length}
 use Rattle.laws.specs.Setting.{unset-count}
 use Rattle.search.specs.declared.Next.{Next}
-use Rattle.search.specs.Sweep.{Pass, passed, forced}
+use Rattle.search.specs.Sweep.{passed, forced}
 use Rattle.search.specs.Forms.{setting-of, pass-at, pass-of}
 use Rattle.search.specs.Places.{parts-clauses}
 use Rattle.search.specs.Engine.{search-at}

@@ -2,13 +2,10 @@
 use borrow.Author.Needs.{needs}
 use Prim.Native.Nat.{ℕ, _+_, _/_, _≤_, _<_}
 use native.Mathlib.Omega.{arith}
-use mathlib.Core.Path.{_≡_, sym, ap, subst}
+use mathlib.Core.Path.{ap, subst}
 use lib.ListN.{length}
 use Rattle.meaning.specs.File.{two-at}
-use Rattle.search.specs.declared.Parts.{Parts}
-use Rattle.search.specs.declared.Question.{Question}
 use Rattle.search.specs.Forms.{Among}
-use Rattle.search.specs.Places.{Asks}
 use Rattle.search.proofs.QuestionLaws.{inside-before, lemma-inside, initiation-parts, step-parts, safety-parts}
 use Rattle.search.proofs.places.parts_of.Statement.{statement}
 use Rattle.search.proofs.places.parts_of.Tie as tie
