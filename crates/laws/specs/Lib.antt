@@ -15,6 +15,7 @@ pub mod Marked
 pub mod Questions
 pub mod Inductive
 pub mod Forced
+pub mod Wider
 pub mod Sets
 pub mod RoundsLargest
 pub mod RowOrder

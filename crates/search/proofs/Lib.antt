@@ -1,0 +1,9 @@
+-- What the proofs of several functions use.
+mod EntryLaws
+mod PlaceLaws
+mod BudgetLaws
+mod StatusLaws
+mod SweepLaws
+mod TurnLaws
+mod EngineLaws
+mod QuestionLaws

@@ -1,0 +1,57 @@
+-- Where a question's clauses stand in a file, and what makes them safe to read there.
+use Prim.Native.Nat.{ℕ, zero, suc, _+_, _*_, _≤_}
+use mathlib.Core.Path.{_≡_}
+use mathlib.Core.Bool.{Bool}
+use mathlib.Core.List.{List, _++_, map}
+use lib.ListN.{length, take}
+use Rattle.meaning.specs.Clauses.{Clause}
+use Rattle.meaning.specs.Meaning.{at-marks}
+use Rattle.meaning.specs.File.{literals}
+use Rattle.meaning.specs.Rules.{denied, next, clauses}
+use Rattle.laws.specs.Within.{ClauseWithin, Within}
+use Rattle.format.specs.Section.{next-record, section, Inside, problem-at}
+use Rattle.format.specs.declared.Problem.{Problem}
+use Rattle.search.specs.declared.Parts.{Parts}
+use Rattle.search.specs.declared.Question.{Question}
+use Rattle.search.specs.Forms.{question-of}
+
+-- so many literals lie inside the file, each of a variable up to 512
+pub record Literals (file : List ℕ) (at count : ℕ) : Type 0 where
+  pub inside : at + 2 * count ≤ length file
+  pub within : ClauseWithin 512 (literals file at count)
+
+-- so many records lie inside the file, each literal of a variable up to 512
+pub record Records (file : List ℕ) (at count : ℕ) : Type 0 where
+  pub inside : Inside file at count
+  pub within : Within 512 (section file at count)
+
+-- so many literals lie inside the file, each of a variable up to 512 with a number added
+pub record Denials (file : List ℕ) (at count added : ℕ) : Type 0 where
+  pub inside : at + 2 * count ≤ length file
+  pub within : ClauseWithin 512 (map (next added) (literals file at count))
+
+-- the clauses of a question, as they stand in a file
+unfoldable pub parts-clauses : List ℕ → List Bool → Parts → List Clause
+parts-clauses file on q =
+    section file (q .«first_at») (q .«first_count»)
+    ++ (at-marks on (section file (q .«lemmas_at») (q .«lemmas_count»))
+    ++ (section file (q .«last_at») (q .«last_count»)
+    ++ denied (map (next (q .added)) (literals file (q .«denied_at») (q .«denied_count»)))))
+
+-- they can be read there
+pub record Sound (file : List ℕ) (q : Parts) : Type 0 where
+  pub first : Records file (q .«first_at») (q .«first_count»)
+  pub lemmas : Records file (q .«lemmas_at») (q .«lemmas_count»)
+  pub few : q .«lemmas_count» ≤ 128
+  pub last : Records file (q .«last_at») (q .«last_count»)
+  pub deny : Denials file (q .«denied_at») (q .«denied_count») (q .added)
+
+-- where the record so many records on from a place starts
+unfoldable pub place : List ℕ → ℕ → ℕ → ℕ
+place file at zero = at
+place file at (suc d) = place file (next-record file at) d
+
+-- the parts are those of a question, whichever set it is asked of
+pub record Asks (file : List ℕ) (p : Problem) (q : Question) (r : Parts) : Type 0 where
+  pub sound : Sound file r
+  pub same : (on : List Bool) → parts-clauses file on r ≡ clauses (problem-at file p) (take (p .k) on) (question-of q)

@@ -1,0 +1,55 @@
+// Partial settings by value, and what a literal is worth at one.
+use crate::Setting;
+use format::Literal;
+ghost use mathlib.Core.Path.{_≡_};
+ghost use Prim.Native.Nat.{_<_};
+ghost use Rattle.meaning.specs.Clauses.{variable};
+ghost use Rattle.meaning.specs.Search.{blank, value, «with-literal»};
+ghost use Rattle.format.specs.Forms.{«literal-of»};
+ghost use Rattle.search.specs.Forms.{entry, entries, «setting-of»};
+
+impl Setting {
+    // The setting in which every variable is unset.
+    pub fn none_set() -> Setting
+        ensures { λ r. ⌜ «setting-of» r ≡ blank 512 ⌝ }
+    {
+        Setting { values: [0; 513] }
+    }
+
+    // The setting with a literal set true.
+    pub fn with(mut self, l: Literal) -> Setting
+        requires { ⌜ variable («literal-of» l) < 513 ⌝ }
+        ensures { λ r. ⌜ «setting-of» r ≡ «with-literal» («setting-of» self) («literal-of» l) ⌝ }
+    {
+        match l {
+            Literal::Pos(x) => {
+                self.values[x] = 1;
+                self
+            }
+            Literal::Neg(x) => {
+                self.values[x] = 2;
+                self
+            }
+        }
+    }
+}
+
+// The value of a literal, as an entry of a setting: 0 unset, 1 true, 2 false.
+pub fn worth(values: &[u8; 513], l: Literal) -> u8
+    requires { ⌜ variable («literal-of» l) < 513 ⌝ }
+    ensures { λ r. ⌜ entry r ≡ value (entries (now (values .entry))) («literal-of» l) ⌝ }
+{
+    match l {
+        Literal::Pos(x) => values[x],
+        Literal::Neg(x) => {
+            let v = values[x];
+            if v == 0 {
+                return 0;
+            }
+            if v == 1 {
+                return 2;
+            }
+            1
+        }
+    }
+}
