@@ -15,7 +15,7 @@ ghost use Rattle.problem.specs.Answers.{«reading-of-answer», PlacedIf,
 // What reading a file answers: an accepted problem, or a refusal with its number and place.
 pub enum Checked {
     Accepted(Problem),
-    Refused(usize, usize),
+    Refused(u32, usize),
 }
 
 // 1: file over 65,536 bytes; then record by record; 8: bytes after kind 6.
@@ -49,7 +49,7 @@ pub fn read_problem(file: &[u8]) -> Checked
 
 // What every job returns; what is not given for an answer is 0. Number 0: answered, with no refusal.
 pub struct Report {
-    pub number: usize,
+    pub number: u32,
     pub place: usize,
     pub decisions: usize,
     pub rows: usize,

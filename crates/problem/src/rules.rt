@@ -39,7 +39,7 @@ pub fn at_start() -> Cursor
 
 // What a record comes to: a refusal's number and place, or what is known after it.
 pub enum Step {
-    Stop(usize, usize),
+    Stop(u32, usize),
     Past(Cursor),
 }
 

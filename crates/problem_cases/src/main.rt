@@ -11,7 +11,7 @@ fn number(x: usize) {
 fn show(name: &[u8], file: &[u8]) {
     let r = problem::check(file);
     io::write_all(STDOUT_FILENO, name);
-    number(r.number);
+    number(r.number as usize);
     number(r.place);
     number(r.n);
     number(r.m);

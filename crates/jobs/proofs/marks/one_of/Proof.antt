@@ -1,0 +1,51 @@
+-- `jobs::marks::one_of` meets its contract. Assumes nothing.
+use mathlib.Core.Path.{sym, _∙_}
+use native.Mathlib.Omega.{arith}
+use Rattle.jobs.specs.Asks.{asks}
+use Rattle.jobs.specs.Leaving.{no-room, one-left}
+use Rattle.jobs.specs.Calling.{refused-outcome, one-job-at}
+use borrow.Author.Needs.{needs}
+use Rattle.jobs.proofs.marks.one_of.Statement.{statement}
+use Rattle.jobs.proofs.marks.one_of.Tie as tie
+use Rattle.jobs.proofs.marks.one_of.Reads as reads
+use Rattle.jobs.proofs.marks.one_of.Lts as lts
+use Rattle.jobs.proofs.marking.single.Reads as single-reads
+use Rattle.jobs.proofs.marks.leave.Reads as leave-reads
+use Rattle.jobs.proofs.marks.refused.Reads as refused-reads
+
+-- src/marks.rt:99:9
+refused-requires : tie.Need-refused-requires
+refused-requires c κs = search needs
+
+-- src/marks.rt:99:9
+returns : tie.Need-returns
+returns c =
+    let a = c .before .before .before .before .args in
+    refused-outcome _ _ _ _ (c .refused .ensures)
+    ∙ no-room (a .p .k) _ _ _ _ (c .before .if1 .taken)
+    ∙ one-job-at (a .file .now) (a .p) (a .budget) (a .marks .now)
+
+-- src/marks.rt:101:11
+single-requires : tie.Need-single-requires
+single-requires c κs = search needs
+
+-- src/marks.rt:101:5
+leave-requires : tie.Need-leave-requires
+leave-requires c κs = search needs
+
+-- src/marks.rt:93:1
+same-length : tie.Need-same-length
+same-length c = search needs
+
+-- src/marks.rt:93:1
+returns-2 : tie.Need-returns-2
+returns-2 c =
+    let a = c .before .before .before .before .before .before .before .before .args in
+    c .before .before .leave .ensures
+    ∙ one-left (asks (a .file .now) (a .p)) (a .p .k) (a .budget) _ (c .before .before .before .before .before .if1 .left) _ (c .before .before .before .before .single .ensures)
+    ∙ one-job-at (a .file .now) (a .p) (a .budget) (a .marks .now)
+
+pub one-of-spec : {M : Type 1} → statement M
+one-of-spec =
+    tie.close
+    (tie.spec refused-requires returns single-requires leave-requires same-length returns-2)

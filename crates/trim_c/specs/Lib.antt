@@ -1,0 +1,2 @@
+-- What the C interface's words stand for.
+pub mod Words
