@@ -1,0 +1,58 @@
+/* The subset trimmer for C: four jobs on a problem file, with nothing to set up and nothing to free.
+ *
+ * Every call may be made with any bytes as the file, any budget and any length of lent bytes: no prior check is asked. The only duties of a
+ * caller are those of C: `file` points to `file_len` readable bytes, `marks` or `rows` to that many writable ones (a length of 0 takes any
+ * pointer that is not null), `report` to seven words, and no two of them overlap. A call reads nothing else, writes nothing else, keeps
+ * nothing, and takes no lock; calls may run side by side. It needs up to 1 MiB of stack.
+ *
+ * Each call returns the number of its answer, 0 for an answer and 1 to 12 for a refusal, and fills `report`:
+ *
+ *   report[0]  the number again
+ *   report[1]  the place of a refusal 1 to 8: a byte offset in the file
+ *   report[2]  the decisions counted; for refusal 10 the budget
+ *   report[3]  the rows written (a listing)
+ *   report[4]  n, the state variables          \
+ *   report[5]  m, the inputs and helpers        > of a file that trim_check accepts
+ *   report[6]  k, the candidate lemmas         /
+ *
+ * What is not given for an answer is 0.
+ *
+ *    1  file over 65,536 bytes                      7  more than 4,096 clauses or 128 lemmas
+ *    2  a record cut short                          8  bytes after the end record
+ *    3  a kind out of place                         9  fewer than k bytes lent (trim_largest, trim_one)
+ *    4  a body length not allowed for its kind     10  a decision wanted over the budget
+ *    5  n or m out of range                        11  the largest inductive set isn't safe: no subset of these candidates would do
+ *    6  literal 0, or a variable too large         12  a row that doesn't fit (trim_list)
+ *
+ * Refusals 1 to 9 and 11 write nothing but the report; so does 10, but for a listing, where 10 and 12 keep the rows already found. The budget
+ * bounds the decisions of the whole call, 0 to 4,294,967,295. docs/FORMAT.md says what a problem file is.
+ */
+#ifndef TRIM_H
+#define TRIM_H
+
+#include <stddef.h>
+#include <stdint.h>
+
+#ifdef __cplusplus
+extern "C" {
+#endif
+
+/* Check a problem file: n, m and k of an accepted one. */
+uint32_t trim_check(const uint8_t *file, size_t file_len, uint64_t report[7]);
+
+/* Mark the largest inductive subset: byte p of the first k is 1 if the lemma at position p is in it, and 0 if not. Other bytes keep their
+ * value. */
+uint32_t trim_largest(const uint8_t *file, size_t file_len, uint32_t budget, uint8_t *marks, size_t marks_len, uint64_t report[7]);
+
+/* Mark one minimal safe inductive subset, in the same way: it is safe and inductive, and no proper part of it is. */
+uint32_t trim_one(const uint8_t *file, size_t file_len, uint32_t budget, uint8_t *marks, size_t marks_len, uint64_t report[7]);
+
+/* List all minimal safe inductive subsets: row r stands at bytes r*k to r*k+k-1, marked in the same way. Rows are ordered so that at the
+ * first position where two differ, the one that has it comes first; the one set is the last row. Number 0 says that the list is complete. */
+uint32_t trim_list(const uint8_t *file, size_t file_len, uint32_t budget, uint8_t *rows, size_t rows_len, uint64_t report[7]);
+
+#ifdef __cplusplus
+}
+#endif
+
+#endif
