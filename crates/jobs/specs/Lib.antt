@@ -13,3 +13,11 @@ pub mod Single
 pub mod Outcome
 pub mod Leaving
 pub mod Calling
+pub mod ListingFound
+pub mod ListingFirst
+pub mod ListingForms
+pub mod ListingSets
+pub mod ListingProgress
+pub mod ListingSide
+pub mod ListingNode
+pub mod ListingCall

@@ -1,13 +1,13 @@
 -- A row as it is written: one mark more, the whole row, and the row as a part of the lent bytes.
-use Prim.Native.Nat.{ℕ, zero, suc, _+_, _≤_, _<_}
+use Prim.Native.Nat.{ℕ, zero, suc, _+_, _-_, _≤_, _<_}
 use mathlib.Core.Path.{_≡_, refl, sym, ap, ap₂, _∙_}
 use mathlib.Core.Bool.{Bool, false}
-use mathlib.Core.List.{List, [], _∷_, _++_, map, map-append}
+use mathlib.Core.List.{List, [], _∷_, _++_, map, map-append, append-nil}
 use native.Mathlib.Omega.{arith}
 use native.Mathlib.Nat.{zero-add}
 use native.Mathlib.Numerals.{add-one}
-use lib.ListN.{length, take, drop, getD, set, length-map}
-use lib.Seq.{take-suc, drop-cons, drop-drop, set-at, append-snoc, length-take-le}
+use lib.ListN.{length, take, drop, getD, set, length-map, length-drop}
+use lib.Seq.{take-suc, drop-cons, drop-drop, set-at, append-snoc, length-take-le, take-all, drop-length}
 use Rattle.meaning.specs.Meaning
 use Rattle.meaning.specs.Calls.{mark, written}
 
@@ -49,3 +49,20 @@ unfolding written
 row-in-whole at S lent =
     ap (λ (l : List ℕ). take at lent ++ (map mark S ++ l))
     (ap (λ (n : ℕ). drop n (drop at lent)) (zero-add (length S)) ∙ drop-drop (length S) at lent)
+
+-- the same of a part up to the end, lent and back in its place
+pub row-back : (at : ℕ) (S : Meaning.Marks) (lent ys : List ℕ) → at ≤ length lent
+    → ys ≡ written 0 S (take (length lent - at) (drop at lent))
+    → take at lent ++ (ys ++ drop (length lent - at) (drop at lent)) ≡ written at S lent
+row-back at S lent ys within e =
+    ap (λ (l : List ℕ). take at lent ++ (ys ++ l)) nothing-after
+    ∙ ap (λ (l : List ℕ). take at lent ++ l) (append-nil ys ∙ e ∙ ap (written 0 S) whole-rest)
+    ∙ row-in-whole at S lent
+  where
+    nothing-after : drop (length lent - at) (drop at lent) ≡ []
+    nothing-after =
+        let end : at + (length lent - at) ≡ length lent = omega arith in
+        drop-drop (length lent - at) at lent ∙ ap (λ (n : ℕ). drop n lent) end ∙ drop-length lent
+
+    whole-rest : take (length lent - at) (drop at lent) ≡ drop at lent
+    whole-rest = take-all (length lent - at) (drop at lent) (omega (arith, length-drop at lent))
