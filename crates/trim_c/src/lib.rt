@@ -1,7 +1,7 @@
 // The four jobs for C and Rust, and nothing else. include/trim.h says the whole contract in words.
 ghost use mathlib.Core.Path.{_≡_};
 ghost use mathlib.Core.List.{[]};
-ghost use Rattle.meaning.specs.Calls.{«check-call», «largest-call», «one-call»};
+ghost use Rattle.meaning.specs.Calls.{«check-call», «largest-call», «one-call», «list-call»};
 ghost use Rattle.problem.specs.Answers.{«report-of»};
 ghost use Rattle.trim_c.specs.Words.{«words-of»};
 use problem::Report;
@@ -49,4 +49,12 @@ pub extern "C" fn trim_one(file: &[u8], budget: u32, marks: &mut [u8], report: &
     ensures { λ r. ⌜ (r ≡ «one-call» (now (file .entry)) budget (now (marks .entry)) .report .number) × (now (report .exit) ≡ «words-of» («one-call» (now (file .entry)) budget (now (marks .entry)) .report)) × (now (marks .exit) ≡ «one-call» (now (file .entry)) budget (now (marks .entry)) .lent) ⌝ }
 {
     fill(jobs::mark_one(file, budget, marks), report)
+}
+
+// List all minimal safe inductive subsets.
+#[no_mangle]
+pub extern "C" fn trim_list(file: &[u8], budget: u32, rows: &mut [u8], report: &mut [u64; 7]) -> u32
+    ensures { λ r. ⌜ (r ≡ «list-call» (now (file .entry)) budget (now (rows .entry)) .report .number) × (now (report .exit) ≡ «words-of» («list-call» (now (file .entry)) budget (now (rows .entry)) .report)) × (now (rows .exit) ≡ «list-call» (now (file .entry)) budget (now (rows .entry)) .lent) ⌝ }
+{
+    fill(jobs::list_all(file, budget, rows), report)
 }
