@@ -9,7 +9,6 @@ pub mod families;
 pub mod file;
 pub mod find;
 pub mod jobs;
-#[cfg(library)]
 pub mod library;
 pub mod limits;
 pub mod listing;

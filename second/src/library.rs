@@ -1,37 +1,49 @@
-//! The proved library through its C interface. Only this file knows how the library is called.
+//! The proved library through its C interface, in a process of its own: the library is built for x86-64, and this program for the processor
+//! at hand. Only this file knows how the library is called; driver/driver.c is the other end.
 
 use crate::jobs::{Job, Report};
 use crate::subject::Subject;
+use std::cell::RefCell;
+use std::io::{Read, Write};
+use std::process::{Child, ChildStdin, ChildStdout, Command, Stdio};
 
-extern "C" {
-    fn trim_check(file: *const u8, file_len: usize, report: *mut u64) -> u32;
-    fn trim_largest(
-        file: *const u8,
-        file_len: usize,
-        budget: u32,
-        marks: *mut u8,
-        marks_len: usize,
-        report: *mut u64,
-    ) -> u32;
-    fn trim_one(
-        file: *const u8,
-        file_len: usize,
-        budget: u32,
-        marks: *mut u8,
-        marks_len: usize,
-        report: *mut u64,
-    ) -> u32;
-    fn trim_list(
-        file: *const u8,
-        file_len: usize,
-        budget: u32,
-        rows: *mut u8,
-        rows_len: usize,
-        report: *mut u64,
-    ) -> u32;
+/// A running driver.
+pub struct Library {
+    pipes: RefCell<(ChildStdin, ChildStdout)>,
+    child: Child,
 }
 
-pub struct Library;
+impl Library {
+    /// The driver that the environment variable TRIM_DRIVER names, if it names one. `driver/build` makes it.
+    pub fn started() -> Option<Library> {
+        let path = std::env::var_os("TRIM_DRIVER")?;
+        let mut child = Command::new(&path)
+            .stdin(Stdio::piped())
+            .stdout(Stdio::piped())
+            .spawn()
+            .unwrap_or_else(|error| panic!("{}: {error}", path.to_string_lossy()));
+        let pipes = (child.stdin.take().expect("a pipe"), child.stdout.take().expect("a pipe"));
+        Some(Library { pipes: RefCell::new(pipes), child })
+    }
+}
+
+impl Drop for Library {
+    fn drop(&mut self) {
+        let _ = self.child.kill();
+        let _ = self.child.wait();
+    }
+}
+
+fn request(job: Job, file: &[u8], budget: u32, lent: &[u8]) -> Vec<u8> {
+    let number = Job::ALL.iter().position(|&other| other == job).expect("a job");
+    let mut bytes = Vec::with_capacity(16 + file.len() + lent.len());
+    for word in [number as u32, budget, file.len() as u32, lent.len() as u32] {
+        bytes.extend(word.to_le_bytes());
+    }
+    bytes.extend(file);
+    bytes.extend(lent);
+    bytes
+}
 
 impl Subject for Library {
     fn name(&self) -> String {
@@ -39,24 +51,26 @@ impl Subject for Library {
     }
 
     fn call(&self, job: Job, file: &[u8], budget: u32, lent: &mut [u8]) -> Report {
-        let (bytes, bytes_len) = (file.as_ptr(), file.len());
-        let (space, space_len) = (lent.as_mut_ptr(), lent.len());
-        // Preset, so that a field the library leaves out shows.
-        let mut report = [u64::MAX; 7];
-        let fields = report.as_mut_ptr();
-        // SAFETY: each pointer goes with the length of its own slice, the two slices do not meet,
-        // and the report has the seven fields the interface names.
-        let returned = unsafe {
-            match job {
-                Job::Check => trim_check(bytes, bytes_len, fields),
-                Job::Largest => trim_largest(bytes, bytes_len, budget, space, space_len, fields),
-                Job::One => trim_one(bytes, bytes_len, budget, space, space_len, fields),
-                Job::List => trim_list(bytes, bytes_len, budget, space, space_len, fields),
-            }
-        };
-        let [number, place, decisions, rows, n, m, k] = report;
-        // The number comes twice; where the two differ neither is the answer.
-        let number = if number == returned as u64 { number } else { u64::MAX };
-        Report { number, place, decisions, rows, n, m, k }
+        let mut pipes = self.pipes.borrow_mut();
+        pipes.0.write_all(&request(job, file, budget, lent)).expect("the driver takes a request");
+        pipes.0.flush().expect("the driver takes a request");
+        let mut words = [0u8; 64];
+        pipes.1.read_exact(&mut words).expect("the driver answers");
+        pipes.1.read_exact(lent).expect("the driver answers");
+        let half = |at: usize| u32::from_le_bytes(words[at..at + 4].try_into().expect("four bytes"));
+        let word = |at: usize| u64::from_le_bytes(words[8 + 8 * at..16 + 8 * at].try_into().expect("eight bytes"));
+        let (returned, kept) = (half(0), half(4));
+        // The number comes twice, and nothing around the lent bytes may change: else this is no answer.
+        let right = word(0) == returned as u64 && kept == 1;
+        let number = if right { word(0) } else { u64::MAX };
+        Report {
+            number,
+            place: word(1),
+            decisions: word(2),
+            rows: word(3),
+            n: word(4),
+            m: word(5),
+            k: word(6),
+        }
     }
 }

@@ -1,7 +1,8 @@
 //! The comparison from the command line: `compare [CALLS [SEED]]`, 100,000 calls if none are named.
-//! Compares with the library if it was linked, else with this program itself and with one mutant.
+//! Compares with the library where TRIM_DRIVER names its driver (driver/build makes it), else with this program itself and with one mutant.
 
 use second::compare::compare;
+use second::library::Library;
 use second::mutants::Rules;
 use second::subject::{Second, Subject};
 use std::process::ExitCode;
@@ -13,10 +14,21 @@ fn main() -> ExitCode {
     let now = SystemTime::now().duration_since(UNIX_EPOCH).map_or(1, |since| since.as_nanos() as u64);
     let seed = number(2).unwrap_or(now);
     println!("seed {seed}");
-    if run(subject().as_ref(), calls as usize, seed) {
+    let Some(library) = Library::started() else {
+        return alone(calls as usize, seed);
+    };
+    if run(&library, calls as usize, seed) {
         return ExitCode::FAILURE;
     }
-    if cfg!(not(library)) && !run(&Second(Rules::DroppedWithinRound), calls as usize, seed) {
+    ExitCode::SUCCESS
+}
+
+/// With no library: no difference from this program itself, and the mutant is found.
+fn alone(calls: usize, seed: u64) -> ExitCode {
+    if run(&Second(Rules::TRUE), calls, seed) {
+        return ExitCode::FAILURE;
+    }
+    if !run(&Second(Rules::DroppedWithinRound), calls, seed) {
         println!("the mutant was not found");
         return ExitCode::FAILURE;
     }
@@ -28,14 +40,4 @@ fn run(other: &dyn Subject, calls: usize, seed: u64) -> bool {
     let found = compare(&Second(Rules::TRUE), other, calls, seed);
     println!("the second program and {}: {found}", other.name());
     found.difference.is_some()
-}
-
-#[cfg(library)]
-fn subject() -> Box<dyn Subject> {
-    Box::new(second::library::Library)
-}
-
-#[cfg(not(library))]
-fn subject() -> Box<dyn Subject> {
-    Box::new(Second(Rules::TRUE))
 }
