@@ -1,0 +1,27 @@
+-- `text::page::put` meets its contract: a byte that fits, or one that doesn't. Assumes nothing.
+use Rattle.text.specs.PageLaws.{byte-fits, byte-over}
+use borrow.Author.Needs.{needs}
+use Rattle.text.proofs.page.put.Statement.{statement}
+use Rattle.text.proofs.page.put.Tie as tie
+
+add-result : tie.Need-add-result
+add-result c = search needs
+
+returns : tie.Need-returns
+returns c page text was = byte-over _ page text _ _ was (c .if1 .taken)
+
+slice-write-out : tie.Need-slice-write-out
+slice-write-out c = search needs
+
+add-result-2 : tie.Need-add-result-2
+add-result-2 c = search needs
+
+same-length : tie.Need-same-length
+same-length c = search needs
+
+returns-2 : tie.Need-returns-2
+returns-2 c page text was = byte-fits _ page text _ _ was (c .if1 .left)
+
+pub put-spec : {M : Type 1} → statement M
+put-spec =
+    tie.close (tie.spec add-result returns slice-write-out add-result-2 same-length returns-2)
