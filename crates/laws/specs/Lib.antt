@@ -27,3 +27,4 @@ pub mod Paper
 pub mod DemandsHold
 pub mod Useless
 pub mod Feed
+pub mod Promises
