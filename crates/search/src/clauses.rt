@@ -18,30 +18,56 @@ ghost use Rattle.format.specs.Forms.{«literal-of»};
 ghost use Rattle.format.specs.Section.{section};
 ghost use Rattle.search.specs.Sweep as spec;
 ghost use Rattle.search.specs.Forms.{entries, «status-of», «pass-at», «pass-of»};
+ghost use Rattle.search.specs.Seen.{«more-places», «first-seen», «seen-places», FirstInside};
 ghost use Rattle.search.specs.Places.{Literals, Records, Denials};
 
-// An unset literal after what was seen of a clause.
-fn seen(s: Status, l: Literal) -> Status
-    ensures { λ r. ⌜ «status-of» r ≡ spec.seen («status-of» s) («literal-of» l) ⌝ }
+// One unset place more of a clause: none, one, and then several.
+fn one_more(places: usize) -> usize
+    ensures { λ r. ⌜ r ≡ «more-places» places ⌝ }
 {
-    match s {
-        Status::Holds => Status::Holds,
-        Status::Fails => Status::One(l),
-        Status::One(k) => Status::More(k),
-        Status::More(k) => Status::More(k),
+    if places == 0 {
+        return 1;
     }
+    2
 }
 
-// What a clause comes to: its literals one after another, up to the first true one.
+// Where the first unset literal of a clause stands, after one more at a place.
+fn first_of(places: usize, first: usize, here: usize) -> usize
+    ensures { λ r. ⌜ r ≡ «first-seen» places first here ⌝ }
+{
+    if places == 0 {
+        return here;
+    }
+    first
+}
+
+// What a clause without a true literal comes to: so many unset places, the first of them where it was seen.
+fn told(file: &[u8], places: usize, first: usize) -> Status
+    requires { ⌜ FirstInside (now file) places first ⌝ }
+    ensures { λ r. ⌜ «status-of» r ≡ «seen-places» (now (file .entry)) places first ⌝ }
+{
+    if places == 0 {
+        return Status::Fails;
+    }
+    let l = literal_at(file, first);
+    if places == 1 {
+        return Status::One(l);
+    }
+    Status::More(l)
+}
+
+// What a clause comes to: its literals one after another, up to the first true one. The loop holds numbers alone, so that it runs in registers.
 fn scan(file: &[u8], start: usize, count: usize, values: &[u8; 513]) -> Status
     requires { ⌜ Literals (now file) start count ⌝ }
     ensures { λ r. ⌜ «status-of» r ≡ spec.status (entries (now (values .entry))) (literals (now (file .entry)) start count) ⌝ }
 {
-    let mut s = Status::Fails;
+    let mut places: usize = 0;
+    let mut first = start;
     let mut at = start;
     let mut left = count;
     while 0 < left {
-        let l = literal_at(file, at);
+        let here = at;
+        let l = literal_at(file, here);
         let v = worth(values, l);
         at += 2;
         left -= 1;
@@ -49,10 +75,11 @@ fn scan(file: &[u8], start: usize, count: usize, values: &[u8; 513]) -> Status
             return Status::Holds;
         }
         if v == 0 {
-            s = seen(s, l);
+            first = first_of(places, first, here);
+            places = one_more(places);
         }
     }
-    s
+    told(file, places, first)
 }
 
 // After a clause that forces a literal, which is set.

@@ -1,11 +1,13 @@
 -- `scan` meets its contract. The loop's invariant: the status of the whole clause is that of the literals left, after what was seen.
 use Prim.Native.Nat.{_+_, _-_}
 use native.Mathlib.Omega.{arith}
-use mathlib.Core.Path.{_≡_, refl, sym, ap, _∙_}
+use Prim.Native.Nat.{ℕ}
+use mathlib.Core.Path.{_≡_, refl, sym, ap, ap₂, subst₂, _∙_}
 use Rattle.meaning.specs.Clauses
 use Rattle.meaning.specs.File.{literals}
 use Rattle.format.specs.Forms.{literal-of}
-use Rattle.search.specs.Sweep.{Status, status, status-from}
+use Rattle.search.specs.Sweep.{Status, seen, status, status-from}
+use Rattle.search.specs.Seen.{FirstInside, seen-places, seen-more, inside-more}
 use Rattle.search.specs.Forms.{entries, status-of}
 use Rattle.search.specs.Places.{Literals}
 use Rattle.search.proofs.PlaceLaws.{literals-done, literal-inside, literal-range, literals-next, read-true, read-unset, read-false}
@@ -13,16 +15,18 @@ use Rattle.search.proofs.clauses.scan.Statement.{statement}
 use Rattle.search.proofs.clauses.scan.Tie as tie
 
 abbrev Inv-loop : tie.InvT-loop
-Inv-loop file start count values s₀ at₀ left₀ s at left =
+Inv-loop file start count values places₀ first₀ at₀ left₀ places first at left =
     Literals file at left
-    × (status (entries values) (literals file start count) ≡ status-from (entries values) (status-of s) (literals file at left))
+    × (status (entries values) (literals file start count)
+    ≡ status-from (entries values) (seen-places file places first) (literals file at left))
+    × FirstInside file places first
 
 abbrev μ-loop : tie.MeasureT-loop
-μ-loop file start count values s₀ at₀ left₀ s at left = left
+μ-loop file start count values places₀ first₀ at₀ left₀ places first at left = left
 
 loop-holds : tie.Need-loop-holds Inv-loop μ-loop
 unfolding status
-loop-holds c = (c .before .pre, refl)
+loop-holds c = (c .before .pre, refl, tt)
 
 literal-at-requires : tie.Need-literal-at-requires Inv-loop μ-loop
 literal-at-requires c κs =
@@ -55,28 +59,41 @@ returns c =
     let loop = c .before .before .before .before in
     let start = loop .before .before in
     sym (loop .loop .inv .1 ∙
-    read-true (entries (start .args .values .now)) (status-of (loop .loop .s)) (start .args .file .now) (loop .loop .at) (loop .loop .left)
+    read-true (entries (start .args .values .now)) (seen-places (start .args .file .now) (loop .loop .places) (loop .loop .first)) (start .args .file .now) (loop .loop .at) (loop .loop .left)
     (c .before .before .before .loop-test .taken) (literal-of (c .before .before .literal-at .result)) (c .before .before .literal-at .ensures)
     (c .before .worth .result) (c .before .worth .ensures) (c .if1 .taken))
 
-seen-requires : tie.Need-seen-requires Inv-loop μ-loop
-seen-requires c κs = tt
+first-of-requires : tie.Need-first-of-requires Inv-loop μ-loop
+first-of-requires c κs = tt
+
+one-more-requires : tie.Need-one-more-requires Inv-loop μ-loop
+one-more-requires c κs = tt
 
 loop-less : tie.Need-loop-less Inv-loop μ-loop
 loop-less c = omega arith
 
 loop-again : tie.Need-loop-again Inv-loop μ-loop
 loop-again c =
-    let worth = c .before .before .before in
+    let worth = c .before .before .before .before in
     let loop = worth .before .before .before in
     let start = loop .before .before in
-    let v = entries (start .args .values .now) in (
+    let file = start .args .file .now in
+    let v = entries (start .args .values .now) in
+    let s = seen-places file (loop .loop .places) (loop .loop .first) in
+    let l = literal-of (worth .before .literal-at .result) in
+    let rest = literals file (loop .loop .at + 2) (loop .loop .left - 1) in
+    let next : seen s l ≡ seen-places file (c .one-more .result) (c .before .first-of .result) =
+    ap (seen s) (worth .before .literal-at .ensures)
+    ∙ seen-more file (loop .loop .places) (loop .loop .first) (loop .loop .at)
+    ∙ ap₂ (λ (i j : ℕ). seen-places file i j) (sym (c .one-more .ensures)) (sym (c .before .first-of .ensures)) in
+    let inside = literal-inside file (loop .loop .at) (loop .loop .left) (worth .before .before .loop-test .taken) (loop .loop .inv .0) in (
       next-literals worth,
-      loop .loop .inv .1 ∙
-          read-unset v (status-of (loop .loop .s)) (start .args .file .now) (loop .loop .at) (loop .loop .left)
-          (worth .before .before .loop-test .taken) (literal-of (worth .before .literal-at .result)) (worth .before .literal-at .ensures)
-          (worth .worth .result) (worth .worth .ensures) (c .before .if2 .taken) ∙
-          ap (λ (s : Status). status-from v s (literals (start .args .file .now) (loop .loop .at + 2) (loop .loop .left - 1))) (sym (c .seen .ensures)),
+      loop .loop .inv .1
+          ∙ read-unset v s file (loop .loop .at) (loop .loop .left) (worth .before .before .loop-test .taken) l (worth .before .literal-at .ensures)
+          (worth .worth .result) (worth .worth .ensures) (c .before .before .if2 .taken)
+          ∙ ap (λ (t : Status). status-from v t rest) next,
+      subst₂ (λ (i j : ℕ). FirstInside file i j) (sym (c .one-more .ensures)) (sym (c .before .first-of .ensures))
+          (inside-more file (loop .loop .places) (loop .loop .first) (loop .loop .at) inside (loop .loop .inv .2)),
     )
 
 loop-less-2 : tie.Need-loop-less-2 Inv-loop μ-loop
@@ -89,18 +106,25 @@ loop-again-2 c =
     let start = loop .before .before in (
       next-literals worth,
       loop .loop .inv .1 ∙
-          read-false (entries (start .args .values .now)) (status-of (loop .loop .s)) (start .args .file .now) (loop .loop .at) (loop .loop .left)
+          read-false (entries (start .args .values .now)) (seen-places (start .args .file .now) (loop .loop .places) (loop .loop .first)) (start .args .file .now) (loop .loop .at) (loop .loop .left)
           (worth .before .before .loop-test .taken) (literal-of (worth .before .literal-at .result)) (worth .before .literal-at .ensures)
           (worth .worth .result) (worth .worth .ensures) (c .if2 .left) (c .before .if1 .left),
+      loop .loop .inv .2,
     )
+
+told-requires : tie.Need-told-requires Inv-loop μ-loop
+told-requires c κs = c .before .loop .inv .2
 
 returns-2 : tie.Need-returns-2 Inv-loop μ-loop
 returns-2 c =
-    let loop = c .before in
+    let loop = c .before .before in
     let start = loop .before .before in
     let v = entries (start .args .values .now) in
-    sym (loop .loop .inv .1 ∙
-    literals-done v (status-of (loop .loop .s)) (start .args .file .now) (loop .loop .at) (loop .loop .left) (c .loop-test .left))
+    c .told .ensures
+    ∙ sym
+    (loop .loop .inv .1
+    ∙ literals-done v (seen-places (start .args .file .now) (loop .loop .places) (loop .loop .first)) (start .args .file .now) (loop .loop .at)
+    (loop .loop .left) (c .before .loop-test .left))
 
 pub scan-spec : {M : Type 1} → statement M
 scan-spec =
@@ -114,9 +138,11 @@ scan-spec =
     add-at
     sub-left
     returns
-    seen-requires
+    first-of-requires
+    one-more-requires
     loop-less
     loop-again
     loop-less-2
     loop-again-2
+    told-requires
     returns-2)
