@@ -117,7 +117,11 @@ fn peaks() {
 }
 
 fn main() {
-    let long = std::env::args().any(|word| word == "long");
+    let said = |word: &str| std::env::args().any(|given| given == word);
+    if said("stack") {
+        return peaks();
+    }
+    let long = said("long");
     head();
     line("full", Job::Check, &full(), 0);
     for name in ["ledger", "loader-1", "loader-2"] {
