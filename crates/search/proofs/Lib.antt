@@ -4,6 +4,7 @@ mod PlaceLaws
 mod BudgetLaws
 mod StatusLaws
 mod SweepLaws
+mod TallyLaws
 mod TurnLaws
 mod EngineLaws
 mod QuestionLaws

@@ -18,14 +18,7 @@ use Rattle.laws.specs.Moves
 use Rattle.laws.specs.Moves.{UnsetIn, first-at, forced-unset, open-unset, unset-in-range, some-open, false-at}
 use Rattle.laws.specs.Forced.{forced-any, forced-closed, all-satisfied, decided, true-not-only-false}
 use Rattle.search.specs.Sweep
-use Rattle.search.specs.Sweep.{met, failed, one, more, status, Next, satisfied, forced, try, Pass, closed, passed, opened, met-by, met-on, set-by, meet, sweep}
-use Rattle.search.specs.declared.Next as Code
-use Rattle.search.specs.declared.Next.the-variants.{Satisfied, Try, Forced, Closed}
-use Rattle.search.specs.declared.Status
-use Rattle.search.specs.declared.Status.the-variants.{Holds, Fails, One, More}
-use Rattle.search.proofs.Status.{the-type}
-use denote.Enum.Declared.{tagOf}
-use Rattle.search.specs.Forms.{status-of, pass-at}
+use Rattle.search.specs.Sweep.{met, failed, one, more, status, Next, satisfied, forced, try, Pass, closed, passed, opened, met-by, meet, sweep}
 use Rattle.search.specs.Engine.{search-at, tried, Ready}
 use Rattle.search.proofs.StatusLaws.{Means, status-means}
 
@@ -38,43 +31,6 @@ pub sweep-closed : (cs : List Clause) → sweep cs closed ≡ closed
 unfolding sweep meet
 sweep-closed [] = refl
 sweep-closed (c ∷ cs) = sweep-closed cs
-
--- a clause met by a pass, by its status
-
-pub met-nothing : (p : Pass) → p ≡ met-on met p
-unfolding met-on met-by
-met-nothing closed = refl
-met-nothing (passed v n) = refl
-
-pub met-failed : (p : Pass) → closed ≡ met-on failed p
-unfolding met-on met-by
-met-failed closed = refl
-met-failed (passed v n) = refl
-
-pub meet-at : (n : Code.Next) (v : Setting) (c : Clause) → met-on (status v c) (pass-at n v) ≡ meet c (pass-at n v)
-unfolding met-on meet
-meet-at Satisfied v c = refl
-meet-at (Try l) v c = refl
-meet-at Forced v c = refl
-meet-at Closed v c = refl
-
--- a clause of a status that is not one forced place leaves the setting
-pub set-by-other : (s : Status.Status) (v : Setting)
-    → (tagOf the-type s ≡ 0) ⊎ ((tagOf the-type s ≡ 1) ⊎ (tagOf the-type s ≡ 3)) → v ≡ set-by (status-of s) v
-unfolding set-by
-set-by-other Holds v h = refl
-set-by-other Fails v h = refl
-set-by-other (More l) v h = refl
-set-by-other (One l) v (inl e) = absurd (omega (arith, e))
-set-by-other (One l) v (inr (inl e)) = absurd (omega (arith, e))
-set-by-other (One l) v (inr (inr e)) = absurd (omega (arith, e))
-
--- one turn of a pass: a clause, its status, what was heard of it and the setting after it
-pub turn : (n r : Code.Next) (s : Status.Status) (v u : Setting) (c : Clause) → status-of s ≡ status v c
-    → ((w : Setting) → pass-at r (set-by (status-of s) w) ≡ met-on (status-of s) (pass-at n w)) → u ≡ set-by (status-of s) v
-    → meet c (pass-at n v) ≡ pass-at r u
-turn n r s v u c e heard set =
-    sym (meet-at n v c) ∙ ap (λ (x : Sweep.Status). met-on x (pass-at n v)) (sym e) ∙ sym (heard v) ∙ ap (pass-at r) (sym set)
 
 -- what a pass has forced counts for one, so that it leaves fewer unset
 unfoldable extra : Next → ℕ

@@ -15,19 +15,19 @@ use Rattle.format.specs.Section.{next-record, clause-at, section}
 use Rattle.format.specs.Forms.{literal-of}
 use Rattle.search.specs.Sweep as spec
 use Rattle.search.specs.Sweep.{Pass, status, met-on, set-by, sweep}
-use Rattle.search.specs.declared.Next.{Next}
+use Rattle.search.specs.declared.Tally.{Tally}
 use Rattle.search.specs.declared.Status.{Status}
 use Rattle.search.specs.declared.Status.the-variants.{One}
 use Rattle.format.specs.declared.Literal.{Literal}
-use Rattle.search.specs.Forms.{status-of, pass-at}
+use Rattle.search.specs.Forms.{status-of, tally-at}
 use Rattle.search.specs.Places.{Literals, Records, Denials}
 use Rattle.search.proofs.PlaceLaws.{section-more, section-done, record-inside, record-literals, records-next, marks-in, marks-out, marks-none, denied-more}
 use Rattle.search.proofs.StatusLaws.{one-range}
-use Rattle.search.proofs.SweepLaws.{turn}
+use Rattle.search.proofs.TallyLaws.{turn}
 
 -- what `heard` gives
-abbrev pub Heard : Next → Status → Next → Type 0
-Heard n s r = (w : Setting) → pass-at r (set-by (status-of s) w) ≡ met-on (status-of s) (pass-at n w)
+abbrev pub Heard : Tally → Status → Tally → Type 0
+Heard n s r = (w : Setting) → tally-at r (set-by (status-of s) w) ≡ met-on (status-of s) (tally-at n w)
 
 -- the literal of a clause that forces one is in range
 pub one-below : (v : Setting) (c : Clause) → ClauseWithin 512 c → (s : Status) (l : Literal) → status-of s ≡ status v c → s ≡ One l
@@ -55,15 +55,15 @@ module _ (file : List ℕ) (at left : ℕ) (h : 0 < left) (r : Records file at l
   records-after = subst (λ (k : ℕ). Records file k (left - 1)) next-at (records-next file at left h r)
 
   -- the clause is met
-  pub record-turn : (n m : Next) (s : Status) (v u : Setting) → status-of s ≡ status v (literals file (at + 4) (len / 2)) → Heard n s m
+  pub record-turn : (n m : Tally) (s : Status) (v u : Setting) → status-of s ≡ status v (literals file (at + 4) (len / 2)) → Heard n s m
       → u ≡ set-by (status-of s) v
-      → sweep (section file at left) (pass-at n v) ≡ sweep (section file (at + 4 + len) (left - 1)) (pass-at m u)
+      → sweep (section file at left) (tally-at n v) ≡ sweep (section file (at + 4 + len) (left - 1)) (tally-at m u)
   unfolding sweep clause-at
   record-turn n m s v u is heard set =
-      ap (λ (cs : List Clause). sweep cs (pass-at n v)) (section-more file at left h)
+      ap (λ (cs : List Clause). sweep cs (tally-at n v)) (section-more file at left h)
       ∙ ap (sweep (section file (next-record file at) (left - 1)))
       (turn n m s v u (clause-at file at) (is ∙ ap (λ (k : ℕ). status v (literals file (at + 4) (k / 2))) e) heard set)
-      ∙ ap (λ (k : ℕ). sweep (section file k (left - 1)) (pass-at m u)) next-at
+      ∙ ap (λ (k : ℕ). sweep (section file k (left - 1)) (tally-at m u)) next-at
 
 -- the lemmas of a set, from a position on
 unfoldable pub lemmas-from : List ℕ → List Bool → ℕ → ℕ → ℕ → List Clause
@@ -107,24 +107,24 @@ module _ (file : List ℕ) (on : List Bool) (at count i : ℕ) (h : i < count) (
         (ap (at-marks (drop i on)) more ∙ marks-out on i (clause-at file at) (section file (at + 4 + len) (count - (i + 1))) out)
 
     -- a lemma of the set is met
-    pub lemma-in : (n m : Next) (s : Status) (v u : Setting) → status-of s ≡ status v (literals file (at + 4) (len / 2)) → Heard n s m
+    pub lemma-in : (n m : Tally) (s : Status) (v u : Setting) → status-of s ≡ status v (literals file (at + 4) (len / 2)) → Heard n s m
         → u ≡ set-by (status-of s) v → getD on i false ≡ true
-        → sweep (lemmas-from file on at count i) (pass-at n v)
-        ≡ sweep (lemmas-from file on (at + 4 + len) count (i + 1)) (pass-at m u)
+        → sweep (lemmas-from file on at count i) (tally-at n v)
+        ≡ sweep (lemmas-from file on (at + 4 + len) count (i + 1)) (tally-at m u)
     unfolding lemmas-from sweep clause-at
     lemma-in n m s v u is heard set in-set =
-        ap (λ (cs : List Clause). sweep cs (pass-at n v))
+        ap (λ (cs : List Clause). sweep cs (tally-at n v))
         (ap (at-marks (drop i on)) more ∙ marks-in on i (clause-at file at) (section file (at + 4 + len) (count - (i + 1))) in-set)
         ∙ ap (sweep (at-marks (drop (i + 1) on) (section file (at + 4 + len) (count - (i + 1)))))
         (turn n m s v u (clause-at file at) (is ∙ ap (λ (k : ℕ). status v (literals file (at + 4) (k / 2))) e) heard set)
 
 -- a literal that is denied is met
-pub denial-turn : (file : List ℕ) (at left added : ℕ) → 0 < left → Denials file at left added → (n m : Next) (s : Status) (v u : Setting)
+pub denial-turn : (file : List ℕ) (at left added : ℕ) → 0 < left → Denials file at left added → (n m : Tally) (s : Status) (v u : Setting)
     → status-of s ≡ status v (negation (next added (literal-at file at)) ∷ []) → Heard n s m → u ≡ set-by (status-of s) v
-    → sweep (denied (map (next added) (literals file at left))) (pass-at n v)
-    ≡ sweep (denied (map (next added) (literals file (at + 2) (left - 1)))) (pass-at m u)
+    → sweep (denied (map (next added) (literals file at left))) (tally-at n v)
+    ≡ sweep (denied (map (next added) (literals file (at + 2) (left - 1)))) (tally-at m u)
 unfolding sweep
 denial-turn file at left added h r n m s v u is heard set =
-    ap (λ (cs : List Clause). sweep cs (pass-at n v)) (denied-more file at left added h r)
+    ap (λ (cs : List Clause). sweep cs (tally-at n v)) (denied-more file at left added h r)
     ∙ ap (sweep (denied (map (next added) (literals file (at + 2) (left - 1)))))
     (turn n m s v u (negation (next added (literal-at file at)) ∷ []) is heard set)

@@ -5,6 +5,7 @@ use mathlib.Core.Option.{Option, none, some}
 use mathlib.Core.List.{List, map}
 use lib.ListN.{take}
 use lib.Dec.{ltb}
+use Rattle.meaning.specs.Clauses.{pos, neg}
 use Rattle.meaning.specs.Meaning
 use Rattle.meaning.specs.Search
 use Rattle.meaning.specs.Rules
@@ -21,7 +22,7 @@ use Rattle.search.specs.declared.Status.{Status}
 use Rattle.search.specs.declared.Status.the-variants.{Holds, Fails, One, More}
 use Rattle.search.specs.declared.Next.{Next}
 use Rattle.search.specs.declared.Next.the-variants.{Satisfied, Try, Forced, Closed}
-use Rattle.search.specs.declared.Pass.{Pass}
+use Rattle.search.specs.declared.Tally.{Tally}
 
 -- an entry of a setting: 0 unset, 1 true, 2 false
 unfoldable pub entry : ℕ → Option Bool
@@ -86,8 +87,16 @@ pass-at (Try l) v = spec.passed v (spec.try (literal-of l))
 pass-at Forced v = spec.passed v spec.forced
 pass-at Closed v = spec.closed
 
-abbrev pub pass-of : Pass → spec.Pass
-pass-of p = pass-at (p .next) (setting-of (p .setting))
+-- a pass so far, held in two numbers: a kind, and the variable to try
+abbrev pub tallied : ℕ → ℕ → Search.Setting → spec.Pass
+tallied zero x v = spec.passed v spec.satisfied
+tallied (suc zero) x v = spec.passed v spec.forced
+tallied (suc (suc zero)) x v = spec.closed
+tallied (suc (suc (suc zero))) x v = spec.passed v (spec.try (pos x))
+tallied (suc (suc (suc (suc k)))) x v = spec.passed v (spec.try (neg x))
+
+abbrev pub tally-at : Tally → Search.Setting → spec.Pass
+tally-at t v = tallied (t .kind) (t .variable) v
 
 -- the answer where nothing is left to try
 abbrev pub ended-by : Next → Found

@@ -1,7 +1,7 @@
 // A pass over clauses that are read in place: each clause is met once, and a forced literal is set at once.
-use crate::Next;
-use crate::Pass;
 use crate::Status;
+use crate::Tally;
+use crate::values::set_true;
 use crate::values::worth;
 use format::Literal;
 use format::literal_at;
@@ -17,7 +17,7 @@ ghost use Rattle.meaning.specs.File.{literals};
 ghost use Rattle.format.specs.Forms.{«literal-of»};
 ghost use Rattle.format.specs.Section.{section};
 ghost use Rattle.search.specs.Sweep as spec;
-ghost use Rattle.search.specs.Forms.{entries, «status-of», «pass-at», «pass-of»};
+ghost use Rattle.search.specs.Forms.{entries, «status-of», «tally-at»};
 ghost use Rattle.search.specs.Seen.{«more-places», «first-seen», «seen-places», FirstInside};
 ghost use Rattle.search.specs.Places.{Literals, Records, Denials};
 
@@ -83,78 +83,100 @@ fn scan(file: &[u8], start: usize, count: usize, values: &[u8; 513]) -> Status
 }
 
 // After a clause that forces a literal, which is set.
-fn forced(n: Next) -> Next
-    ensures { λ r. ⌜ ((l : Meant) (v : Partial) → «pass-at» r («with-literal» v l) ≡ spec.«met-on» (spec.one l) («pass-at» n v)) ⌝ }
+fn forced(t: Tally) -> Tally
+    ensures { λ r. ⌜ ((l : Meant) (v : Partial) → «tally-at» r («with-literal» v l) ≡ spec.«met-on» (spec.one l) («tally-at» t v)) ⌝ }
 {
-    match n {
-        Next::Satisfied => Next::Forced,
-        Next::Try(_) => Next::Forced,
-        Next::Forced => Next::Forced,
-        Next::Closed => Next::Closed,
+    if t.kind == 2 {
+        return t;
+    }
+    Tally {
+        kind: 1,
+        variable: 0,
     }
 }
 
 // After a clause with several unset places: rule (d) tries the first unset literal of the first such clause.
-fn opened(n: Next, l: Literal) -> Next
-    ensures { λ r. ⌜ ((v : Partial) → «pass-at» r v ≡ spec.«met-on» (spec.more («literal-of» l)) («pass-at» n v)) ⌝ }
+fn opened(t: Tally, l: Literal) -> Tally
+    ensures { λ r. ⌜ ((v : Partial) → «tally-at» r v ≡ spec.«met-on» (spec.more («literal-of» l)) («tally-at» t v)) ⌝ }
 {
-    match n {
-        Next::Satisfied => Next::Try(l),
-        Next::Try(k) => Next::Try(k),
-        Next::Forced => Next::Forced,
-        Next::Closed => Next::Closed,
+    if t.kind != 0 {
+        return t;
+    }
+    match l {
+        Literal::Pos(x) => Tally {
+            kind: 3,
+            variable: x,
+        },
+        Literal::Neg(x) => Tally {
+            kind: 4,
+            variable: x,
+        },
     }
 }
 
 // What a pass has found after one clause more.
-fn heard(n: Next, s: Status) -> Next
-    ensures { λ r. ⌜ ((v : Partial) → «pass-at» r (spec.«set-by» («status-of» s) v) ≡ spec.«met-on» («status-of» s) («pass-at» n v)) ⌝ }
+fn heard(t: Tally, s: Status) -> Tally
+    ensures { λ r. ⌜ ((v : Partial) → «tally-at» r (spec.«set-by» («status-of» s) v) ≡ spec.«met-on» («status-of» s) («tally-at» t v)) ⌝ }
 {
     match s {
-        Status::Holds => n,
-        Status::Fails => Next::Closed,
-        Status::One(_) => forced(n),
-        Status::More(l) => opened(n, l),
+        Status::Holds => t,
+        Status::Fails => Tally {
+            kind: 2,
+            variable: 0,
+        },
+        Status::One(_) => forced(t),
+        Status::More(l) => opened(t, l),
     }
 }
 
 // A pass over so many records, one after another.
-pub fn sweep_records(file: &[u8], start: usize, count: usize, p: Pass) -> Pass
+pub fn sweep_records(
+    file: &[u8],
+    start: usize,
+    count: usize,
+    values: &mut [u8; 513],
+    t: Tally,
+) -> Tally
     requires { ⌜ Records (now file) start count ⌝ }
-    ensures { λ r. ⌜ «pass-of» r ≡ spec.sweep (section (now (file .entry)) start count) («pass-of» p) ⌝ }
+    ensures { λ r. ⌜ «tally-at» r (entries (now (values .exit))) ≡ spec.sweep (section (now (file .entry)) start count) («tally-at» t (entries (now (values .entry)))) ⌝ }
 {
-    let mut setting = p.setting;
-    let mut next = p.next;
+    let mut tally = t;
     let mut at = start;
     let mut left = count;
     while 0 < left {
-        if let Next::Closed = next {
-            return Pass { setting, next };
+        if tally.kind == 2 {
+            return tally;
         }
         let len = two_at(file, at);
-        let status = scan(file, at + 4, len / 2, &setting.values);
-        next = heard(next, status);
+        let status = scan(file, at + 4, len / 2, values);
+        tally = heard(tally, status);
         at = at + 4 + len;
         left -= 1;
         if let Status::One(l) = status {
-            setting = setting.with(l);
+            set_true(values, l);
         }
     }
-    Pass { setting, next }
+    tally
 }
 
 // A pass over the lemmas that are marked, of so many records.
-pub fn sweep_marked(file: &[u8], on: &[bool; 128], start: usize, count: usize, p: Pass) -> Pass
+pub fn sweep_marked(
+    file: &[u8],
+    on: &[bool; 128],
+    start: usize,
+    count: usize,
+    values: &mut [u8; 513],
+    t: Tally,
+) -> Tally
     requires { ⌜ Records (now file) start count × (count ≤ 128) ⌝ }
-    ensures { λ r. ⌜ «pass-of» r ≡ spec.sweep («at-marks» (now (on .entry)) (section (now (file .entry)) start count)) («pass-of» p) ⌝ }
+    ensures { λ r. ⌜ «tally-at» r (entries (now (values .exit))) ≡ spec.sweep («at-marks» (now (on .entry)) (section (now (file .entry)) start count)) («tally-at» t (entries (now (values .entry)))) ⌝ }
 {
-    let mut setting = p.setting;
-    let mut next = p.next;
+    let mut tally = t;
     let mut at = start;
     let mut i = 0;
     while i < count {
-        if let Next::Closed = next {
-            return Pass { setting, next };
+        if tally.kind == 2 {
+            return tally;
         }
         let len = two_at(file, at);
         let body = at + 4;
@@ -162,14 +184,14 @@ pub fn sweep_marked(file: &[u8], on: &[bool; 128], start: usize, count: usize, p
         at = body + len;
         i += 1;
         if marked {
-            let status = scan(file, body, len / 2, &setting.values);
-            next = heard(next, status);
+            let status = scan(file, body, len / 2, values);
+            tally = heard(tally, status);
             if let Status::One(l) = status {
-                setting = setting.with(l);
+                set_true(values, l);
             }
         }
     }
-    Pass { setting, next }
+    tally
 }
 
 // The negation of a literal with a number added to its variable: away from zero, on either side.
@@ -199,26 +221,32 @@ fn lone(values: &[u8; 513], l: Literal) -> Status
 }
 
 // A pass over the negations of so many literals, each a clause of its own, with a number added to each variable.
-pub fn sweep_denied(file: &[u8], start: usize, count: usize, added: usize, p: Pass) -> Pass
+pub fn sweep_denied(
+    file: &[u8],
+    start: usize,
+    count: usize,
+    added: usize,
+    values: &mut [u8; 513],
+    t: Tally,
+) -> Tally
     requires { ⌜ Denials (now file) start count added ⌝ }
-    ensures { λ r. ⌜ «pass-of» r ≡ spec.sweep (denied (map (next added) (literals (now (file .entry)) start count))) («pass-of» p) ⌝ }
+    ensures { λ r. ⌜ «tally-at» r (entries (now (values .exit))) ≡ spec.sweep (denied (map (next added) (literals (now (file .entry)) start count))) («tally-at» t (entries (now (values .entry)))) ⌝ }
 {
-    let mut setting = p.setting;
-    let mut next = p.next;
+    let mut tally = t;
     let mut at = start;
     let mut left = count;
     while 0 < left {
-        if let Next::Closed = next {
-            return Pass { setting, next };
+        if tally.kind == 2 {
+            return tally;
         }
         let l = denial(literal_at(file, at), added);
-        let status = lone(&setting.values, l);
-        next = heard(next, status);
+        let status = lone(values, l);
+        tally = heard(tally, status);
         at += 2;
         left -= 1;
         if let Status::One(k) = status {
-            setting = setting.with(k);
+            set_true(values, k);
         }
     }
-    Pass { setting, next }
+    tally
 }

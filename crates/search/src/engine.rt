@@ -2,8 +2,8 @@
 use crate::Found;
 use crate::Next;
 use crate::Parts;
-use crate::Pass;
 use crate::Setting;
+use crate::Tally;
 use crate::clauses::sweep_denied;
 use crate::clauses::sweep_marked;
 use crate::clauses::sweep_records;
@@ -12,41 +12,63 @@ ghost use mathlib.Core.Path.{_≡_};
 ghost use lib.ListN.{length};
 ghost use Rattle.meaning.specs.Clauses.{negation};
 ghost use Rattle.meaning.specs.Rules.{answer};
+ghost use Rattle.meaning.specs.Search.{Setting as Partial};
 ghost use Rattle.format.specs.Forms.{«literal-of»};
 ghost use Rattle.search.specs.Sweep.{passed, satisfied, sweep};
-ghost use Rattle.search.specs.Forms.{«setting-of», «pass-of», «ended-by», bounded, later, Counts};
+ghost use Rattle.search.specs.Forms.{entries, «setting-of», «pass-at», «tally-at», «ended-by», bounded, later, Counts};
 ghost use Rattle.search.specs.Engine.{«search-at», Ready};
 ghost use Rattle.search.specs.Places.{Sound, «parts-clauses»};
 
 // A pass over all clauses of a question, in the question's order.
-fn sweep_all(file: &[u8], on: &[bool; 128], q: Parts, setting: Setting) -> Pass
+fn sweep_all(file: &[u8], on: &[bool; 128], q: Parts, values: &mut [u8; 513]) -> Tally
     requires { ⌜ Sound (now file) q ⌝ }
-    ensures { λ r. ⌜ «pass-of» r ≡ sweep («parts-clauses» (now (file .entry)) (now (on .entry)) q) (passed («setting-of» setting) satisfied) ⌝ }
+    ensures { λ r.
+        ⌜ «tally-at» r (entries (now (values .exit)))
+        ≡ sweep («parts-clauses» (now (file .entry)) (now (on .entry)) q) (passed (entries (now (values .entry))) satisfied) ⌝ }
 {
-    let start = Pass {
-        setting,
-        next: Next::Satisfied,
+    let start = Tally {
+        kind: 0,
+        variable: 0,
     };
-    let first = sweep_records(file, q.first_at, q.first_count, start);
-    let lemmas = sweep_marked(file, on, q.lemmas_at, q.lemmas_count, first);
-    let last = sweep_records(file, q.last_at, q.last_count, lemmas);
-    sweep_denied(file, q.denied_at, q.denied_count, q.added, last)
+    let first = sweep_records(file, q.first_at, q.first_count, values, start);
+    let lemmas = sweep_marked(file, on, q.lemmas_at, q.lemmas_count, values, first);
+    let last = sweep_records(file, q.last_at, q.last_count, values, lemmas);
+    sweep_denied(file, q.denied_at, q.denied_count, q.added, values, last)
+}
+
+// What a pass has found, by name.
+fn named(t: Tally) -> Next
+    ensures { λ r. ⌜ ((v : Partial) → «pass-at» r v ≡ «tally-at» t v) ⌝ }
+{
+    let x = t.variable;
+    if t.kind == 0 {
+        return Next::Satisfied;
+    }
+    if t.kind == 1 {
+        return Next::Forced;
+    }
+    if t.kind == 2 {
+        return Next::Closed;
+    }
+    if t.kind == 3 {
+        return Next::Try(Literal::Pos(x));
+    }
+    Next::Try(Literal::Neg(x))
 }
 
 // Rule (c), as long as it serves: a clause with no true literal and exactly one place holding an unset literal has that literal set true, not
 // counted. Forced literals may be set in any order, so a pass sets all that it meets; the last pass forces none.
-fn propagate(file: &[u8], on: &[bool; 128], q: Parts, start: Setting) -> Pass
-    requires { ⌜ Sound (now file) q × (length («setting-of» start) ≡ 513) ⌝ }
-    ensures { λ r. ⌜ Ready («parts-clauses» (now (file .entry)) (now (on .entry)) q) («setting-of» start) («pass-of» r) ⌝ }
+fn propagate(file: &[u8], on: &[bool; 128], q: Parts, values: &mut [u8; 513]) -> Next
+    requires { ⌜ Sound (now file) q × (length (entries (now values)) ≡ 513) ⌝ }
+    ensures { λ r.
+        ⌜ Ready («parts-clauses» (now (file .entry)) (now (on .entry)) q) (entries (now (values .entry))) («pass-at» r (entries (now (values .exit)))) ⌝ }
 {
-    let mut setting = start;
     loop {
-        let p = sweep_all(file, on, q, setting);
-        let next = p.next;
+        let t = sweep_all(file, on, q, values);
+        let next = named(t);
         let Next::Forced = next else {
-            return p;
+            return next;
         };
-        setting = p.setting;
     }
 }
 
@@ -89,9 +111,8 @@ pub fn decide(file: &[u8], on: &[bool; 128], q: Parts, start: Setting, left: u64
     requires { ⌜ Sound (now file) q × (length («setting-of» start) ≡ 513) ⌝ }
     ensures { λ r. ⌜ r ≡ bounded left (answer («search-at» («parts-clauses» (now (file .entry)) (now (on .entry)) q) («setting-of» start))) ⌝ }
 {
-    let p = propagate(file, on, q, start);
-    let setting = p.setting;
-    let next = p.next;
+    let mut setting = start;
+    let next = propagate(file, on, q, &mut setting.values);
     let Next::Try(l) = next else {
         return ended(next);
     };

@@ -57,10 +57,11 @@ enum Next {
     Closed,
 }
 
-// A pass over clauses: the setting, with the forced literals set, and what was found.
-struct Pass {
-    setting: Setting,
-    next: Next,
+// What a pass has found so far, held in two numbers, so that it runs in registers. The kind: 0, every clause has a true literal; 1, literals were
+// forced, and are set; 2, a clause has only false ones; 3, a variable to try; 4, the negation of one.
+struct Tally {
+    kind: usize,
+    variable: usize,
 }
 
 // Where the clauses of a question stand in the file, in the question's order: records, the lemmas that are marked, records again, and the literals

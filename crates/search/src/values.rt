@@ -21,16 +21,19 @@ impl Setting {
         requires { ⌜ variable («literal-of» l) < 513 ⌝ }
         ensures { λ r. ⌜ «setting-of» r ≡ «with-literal» («setting-of» self) («literal-of» l) ⌝ }
     {
-        match l {
-            Literal::Pos(x) => {
-                self.values[x] = 1;
-                self
-            }
-            Literal::Neg(x) => {
-                self.values[x] = 2;
-                self
-            }
-        }
+        set_true(&mut self.values, l);
+        self
+    }
+}
+
+// A literal is set true, in the entries of a setting that is lent.
+pub fn set_true(values: &mut [u8; 513], l: Literal)
+    requires { ⌜ variable («literal-of» l) < 513 ⌝ }
+    ensures { λ _. ⌜ entries (now (values .exit)) ≡ «with-literal» (entries (now (values .entry))) («literal-of» l) ⌝ }
+{
+    match l {
+        Literal::Pos(x) => values[x] = 1,
+        Literal::Neg(x) => values[x] = 2,
     }
 }
 

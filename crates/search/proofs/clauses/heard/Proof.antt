@@ -2,8 +2,8 @@
 use borrow.Author.Needs.{needs}
 use Rattle.format.specs.Forms.{literal-of}
 use Rattle.search.specs.Sweep.{set-by}
-use Rattle.search.specs.Forms.{pass-at}
-use Rattle.search.proofs.SweepLaws.{met-nothing, met-failed}
+use Rattle.search.specs.Forms.{tally-at}
+use Rattle.search.proofs.TallyLaws.{met-nothing, met-failed}
 use Rattle.search.proofs.clauses.heard.Statement.{statement}
 use Rattle.search.proofs.clauses.heard.Tie as tie
 
@@ -27,11 +27,11 @@ opened-requires c κs = search needs
 
 returns : tie.Need-returns
 unfolding set-by
-returns c v = rw (c .enum-told .given .1) (met-nothing (pass-at (c .before .before .args .n) v))
+returns c v = rw (c .enum-told .given .1) (met-nothing (tally-at (c .before .before .args .t) v))
 
 returns-2 : tie.Need-returns-2
 unfolding set-by
-returns-2 c v = rw (c .enum-told2 .given .1) (met-failed (pass-at (c .before .before .args .n) v))
+returns-2 c v = rw (c .enum-told2 .given .1) (met-failed (tally-at (c .before .before .args .t) v))
 
 returns-3 : tie.Need-returns-3
 unfolding set-by

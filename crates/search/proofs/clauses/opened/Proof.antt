@@ -1,38 +1,28 @@
 -- `opened` meets its contract.
 use borrow.Author.Needs.{needs}
-use Rattle.search.specs.Sweep.{opened, met-by, met-on, set-by}
+use Rattle.format.specs.Forms.{literal-of}
+use Rattle.search.specs.Sweep.{opened, met-by, met-on}
+use Rattle.search.proofs.TallyLaws.{met-more}
 use Rattle.search.proofs.clauses.opened.Statement.{statement}
 use Rattle.search.proofs.clauses.opened.Tie as tie
 
-enum-told : tie.Need-enum-told
-enum-told c = search needs
-
-enum-known-n : tie.Need-enum-known-n
-enum-known-n c = search needs
-
-enum-told-2 : tie.Need-enum-told-2
-enum-told-2 c = search needs
-
-enum-told-3 : tie.Need-enum-told-3
-enum-told-3 c = search needs
-
 returns : tie.Need-returns
-unfolding met-on met-by opened set-by
-returns c v = rw (c .enum-told .given .1)
+returns c v =
+    met-more (c .before .before .args .t .kind) (c .before .before .args .t .variable) (literal-of (c .before .before .args .l)) v (c .if1 .taken)
+
+enum-known-l : tie.Need-enum-known-l
+enum-known-l c = search needs
+
+enum-known-l-2 : tie.Need-enum-known-l-2
+enum-known-l-2 c = search needs
 
 returns-2 : tie.Need-returns-2
-unfolding met-on met-by opened set-by
-returns-2 c v = rw (c .before .n .given .1)
+unfolding met-on met-by opened
+returns-2 c v = rw (c .before .before .before .if1 .left, c .before .l .given .1)
 
 returns-3 : tie.Need-returns-3
-unfolding met-on met-by opened set-by
-returns-3 c v = rw (c .enum-told2 .given .1)
-
-returns-4 : tie.Need-returns-4
-unfolding met-on met-by opened set-by
-returns-4 c v = rw (c .enum-told3 .given .1)
+unfolding met-on met-by opened
+returns-3 c v = rw (c .before .before .before .if1 .left, c .before .l2 .given .1)
 
 pub opened-spec : {M : Type 1} → statement M
-opened-spec =
-    tie.close
-    (tie.spec enum-told enum-known-n enum-told-2 enum-told-3 returns returns-2 returns-3 returns-4)
+opened-spec = tie.close (tie.spec returns enum-known-l enum-known-l-2 returns-2 returns-3)

@@ -8,103 +8,100 @@ use Rattle.meaning.specs.Rules.{denied, next}
 use Rattle.meaning.specs.File.{literal-at, literals}
 use Rattle.laws.specs.Within.{ClauseWithin}
 use Rattle.format.specs.Forms.{literal-of}
-use Rattle.search.specs.declared.Next.{Next}
 use Rattle.search.specs.Sweep.{closed, status, sweep, set-by}
-use Rattle.search.specs.Forms.{setting-of, pass-at}
+use Rattle.search.specs.Forms.{entries, tally-at}
 use Rattle.search.specs.Places.{Denials}
 use Rattle.search.proofs.PlaceLaws.{denied-done, denial-inside, denial-range, denial-within, denials-next}
-use Rattle.search.proofs.SweepLaws.{sweep-closed, set-by-other}
+use Rattle.search.proofs.SweepLaws.{sweep-closed}
+use Rattle.search.proofs.TallyLaws.{shut-at, set-by-other}
 use Rattle.search.proofs.TurnLaws.{denial-turn, one-below, set-one}
 use Rattle.search.proofs.clauses.sweep_denied.Statement.{statement}
 use Rattle.search.proofs.clauses.sweep_denied.Tie as tie
 
 abbrev Inv-loop : tie.InvT-loop
-Inv-loop file start count added setting₀ next₀ at₀ left₀ setting n at left =
+Inv-loop file start count added values₀ tally₀ at₀ left₀ values tally at left =
     Denials file at left added
-    × (sweep (denied (map (next added) (literals file start count))) (pass-at next₀ (setting-of setting₀))
-    ≡ sweep (denied (map (next added) (literals file at left))) (pass-at n (setting-of setting)))
+    × (sweep (denied (map (next added) (literals file start count))) (tally-at tally₀ (entries values₀))
+    ≡ sweep (denied (map (next added) (literals file at left))) (tally-at tally (entries values)))
 
 abbrev μ-loop : tie.MeasureT-loop
-μ-loop file start count added setting₀ next₀ at₀ left₀ setting n at left = left
+μ-loop file start count added values₀ tally₀ at₀ left₀ values tally at left = left
 
 loop-holds : tie.Need-loop-holds Inv-loop μ-loop
-loop-holds c = (c .before .before .pre, refl)
-
-enum-told : tie.Need-enum-told Inv-loop μ-loop
-enum-told c = c .match .keys1
+loop-holds c = (c .before .pre, refl)
 
 returns : tie.Need-returns Inv-loop μ-loop
 returns c =
     let loop = c .before .before .before in
-    let start = loop .before .before .before in
+    let start = loop .before .before in
     let rest = denied (map (next (start .args .added)) (literals (start .args .file .now) (loop .loop .at) (loop .loop .left))) in
-    let shut : pass-at (loop .loop .next) (setting-of (loop .loop .setting)) ≡ closed =
-    ap (λ (n : Next). pass-at n (setting-of (loop .loop .setting))) (c .enum-told .given .1) in
+    let shut : tally-at (loop .loop .tally) (entries (loop .loop .values)) ≡ closed =
+    shut-at (loop .loop .tally) (entries (loop .loop .values)) (c .if1 .taken) in
     shut ∙ sym (sweep-closed rest) ∙ ap (sweep rest) (sym shut) ∙ sym (loop .loop .inv .1)
 
 literal-at-requires : tie.Need-literal-at-requires Inv-loop μ-loop
 literal-at-requires c κs =
-    let loop = c .before .before in
-    let start = loop .before .before .before in
-    denial-inside (start .args .file .now) (loop .loop .at) (loop .loop .left) (start .args .added) (c .before .loop-test .taken) (loop .loop .inv .0)
+    let loop = c .before .before .before in
+    let start = loop .before .before in
+    denial-inside (start .args .file .now) (loop .loop .at) (loop .loop .left) (start .args .added) (c .before .before .loop-test .taken) (loop .loop .inv .0)
 
 denial-requires : tie.Need-denial-requires Inv-loop μ-loop
 denial-requires c κs =
-    let loop = c .before .before .before in
-    let start = loop .before .before .before in
+    let loop = c .before .before .before .before in
+    let start = loop .before .before in
     rw (c .literal-at .ensures)
-    (denial-range (start .args .file .now) (loop .loop .at) (loop .loop .left) (start .args .added) (c .before .before .loop-test .taken)
+    (denial-range (start .args .file .now) (loop .loop .at) (loop .loop .left) (start .args .added) (c .before .before .before .loop-test .taken)
     (loop .loop .inv .0))
 
 -- the literal that is denied, and its range
 denied-literal : (c : tie.After-denial Inv-loop μ-loop)
     → literal-of (c .denial .result)
     ≡ negation (next (c .before .before .before .before .before .before .before .args .added)
-    (literal-at (c .before .before .before .before .before .before .before .args .file .now) (c .before .before .before .before .loop .at)))
+    (literal-at (c .before .before .before .before .before .before .before .args .file .now) (c .before .before .before .before .before .loop .at)))
 denied-literal c =
     c .denial .ensures ∙
     ap (λ (l : Literal). negation (next (c .before .before .before .before .before .before .before .args .added) l)) (c .before .literal-at .ensures)
 
 denied-within : (c : tie.After-denial Inv-loop μ-loop) → ClauseWithin 512 (literal-of (c .denial .result) ∷ [])
 denied-within c =
-    let loop = c .before .before .before .before in
-    let start = loop .before .before .before in
+    let loop = c .before .before .before .before .before in
+    let start = loop .before .before in
     rw (denied-literal c)
-    (denial-within (start .args .file .now) (loop .loop .at) (loop .loop .left) (start .args .added) (c .before .before .before .loop-test .taken)
+    (denial-within (start .args .file .now) (loop .loop .at) (loop .loop .left) (start .args .added) (c .before .before .before .before .loop-test .taken)
     (loop .loop .inv .0))
 
 lone-requires : tie.Need-lone-requires Inv-loop μ-loop
 lone-requires c κs =
-    let h : variable (literal-of (c .before .before .denial .result)) ≤ 512 = denied-within (c .before .before) .1 in
+    let h : variable (literal-of (c .before .denial .result)) ≤ 512 = denied-within (c .before) .1 in
     omega arith
 
 heard-requires : tie.Need-heard-requires Inv-loop μ-loop
 heard-requires c κs = tt
 
 next-denials : (c : tie.After-denial Inv-loop μ-loop)
-    → Denials (c .before .before .before .before .before .before .before .args .file .now) (c .before .before .before .before .loop .at + 2)
-    (c .before .before .before .before .loop .left - 1) (c .before .before .before .before .before .before .before .args .added)
+    → Denials (c .before .before .before .before .before .before .before .args .file .now) (c .before .before .before .before .before .loop .at + 2)
+    (c .before .before .before .before .before .loop .left - 1) (c .before .before .before .before .before .before .before .args .added)
 next-denials c =
-    let loop = c .before .before .before .before in
-    let start = loop .before .before .before in
-    denials-next (start .args .file .now) (loop .loop .at) (loop .loop .left) (start .args .added) (c .before .before .before .loop-test .taken)
+    let loop = c .before .before .before .before .before in
+    let start = loop .before .before in
+    denials-next (start .args .file .now) (loop .loop .at) (loop .loop .left) (start .args .added) (c .before .before .before .before .loop-test .taken)
     (loop .loop .inv .0)
 
 add-at : tie.Need-add-at Inv-loop μ-loop
-add-at c = let h = next-denials (c .before .before .before .before) .inside in omega (arith, h)
+add-at c = let h = next-denials (c .before .before .before) .inside in omega (arith, h)
 
 sub-left : tie.Need-sub-left Inv-loop μ-loop
 sub-left c = omega arith
 
 enum-known-status : tie.Need-enum-known-status Inv-loop μ-loop
-enum-known-status c = c .match2 .keys1
+enum-known-status c = c .match .keys1
 
-with-requires : tie.Need-with-requires Inv-loop μ-loop
-with-requires c κs =
-    let lone = c .before .before .before .before in
-    let denial = lone .before .before .before in
-    one-below (setting-of (denial .before .before .before .before .loop .setting)) (literal-of (denial .denial .result) ∷ []) (denied-within denial)
-    (lone .lone .result) (c .before .status .given .0 .0) (lone .lone .ensures) (c .before .status .given .1)
+set-true-requires : tie.Need-set-true-requires Inv-loop μ-loop
+set-true-requires c κs =
+    let lone = c .before .before .before .before .before in
+    let denial = lone .before .before in
+    one-below (entries (denial .before .before .before .before .before .loop .values)) (literal-of (denial .denial .result) ∷ []) (denied-within denial)
+    (lone .lone .result) (c .before .before .status .given .0 .0) (lone .lone .ensures) (c .before .before .status .given .1)
 
 loop-less : tie.Need-loop-less Inv-loop μ-loop
 loop-less c = omega arith
@@ -112,18 +109,18 @@ loop-less c = omega arith
 loop-again : tie.Need-loop-again Inv-loop μ-loop
 unfolding set-by
 loop-again c =
-    let heard = c .before .before .before .before in
-    let denial = heard .before .before .before .before in
-    let loop = denial .before .before .before .before in
-    let start = loop .before .before .before in
-    let v = setting-of (loop .loop .setting) in (
+    let heard = c .before .before .before .before .before in
+    let denial = heard .before .before .before in
+    let loop = denial .before .before .before .before .before in
+    let start = loop .before .before in
+    let v = entries (loop .loop .values) in (
       next-denials denial,
       loop .loop .inv .1 ∙
-          denial-turn (start .args .file .now) (loop .loop .at) (loop .loop .left) (start .args .added) (denial .before .before .before .loop-test .taken)
-          (loop .loop .inv .0) (loop .loop .next) (heard .heard .result) (heard .before .lone .result) v (setting-of (c .with .result))
+          denial-turn (start .args .file .now) (loop .loop .at) (loop .loop .left) (start .args .added) (denial .before .before .before .before .loop-test .taken)
+          (loop .loop .inv .0) (loop .loop .tally) (heard .heard .result) (heard .before .lone .result) v (entries (c .set-true .last .0))
           (heard .before .lone .ensures ∙ ap (λ (l : Literal). status v (l ∷ [])) (denied-literal denial)) (heard .heard .ensures)
-          (set-one v (setting-of (c .with .result)) (heard .before .lone .result) (c .before .before .status .given .0 .0)
-          (c .before .before .status .given .1) (c .with .ensures)),
+          (set-one v (entries (c .set-true .last .0)) (heard .before .lone .result) (c .before .before .before .status .given .0 .0)
+          (c .before .before .before .status .given .1) (c .set-true .ensures)),
     )
 
 loop-less-2 : tie.Need-loop-less-2 Inv-loop μ-loop
@@ -132,24 +129,24 @@ loop-less-2 c = omega arith
 loop-again-2 : tie.Need-loop-again-2 Inv-loop μ-loop
 loop-again-2 c =
     let heard = c .before in
-    let denial = heard .before .before .before .before in
-    let loop = denial .before .before .before .before in
-    let start = loop .before .before .before in
-    let v = setting-of (loop .loop .setting) in (
+    let denial = heard .before .before .before in
+    let loop = denial .before .before .before .before .before in
+    let start = loop .before .before in
+    let v = entries (loop .loop .values) in (
       next-denials denial,
       loop .loop .inv .1 ∙
-          denial-turn (start .args .file .now) (loop .loop .at) (loop .loop .left) (start .args .added) (denial .before .before .before .loop-test .taken)
-          (loop .loop .inv .0) (loop .loop .next) (heard .heard .result) (heard .before .lone .result) v v
+          denial-turn (start .args .file .now) (loop .loop .at) (loop .loop .left) (start .args .added) (denial .before .before .before .before .loop-test .taken)
+          (loop .loop .inv .0) (loop .loop .tally) (heard .heard .result) (heard .before .lone .result) v v
           (heard .before .lone .ensures ∙ ap (λ (l : Literal). status v (l ∷ [])) (denied-literal denial)) (heard .heard .ensures)
-          (set-by-other (heard .before .lone .result) v (c .match2 .keys2)),
+          (set-by-other (heard .before .lone .result) v (c .match .keys2)),
     )
 
 returns-2 : tie.Need-returns-2 Inv-loop μ-loop
 unfolding sweep
 returns-2 c =
     let loop = c .before in
-    let start = loop .before .before .before in
-    let p = pass-at (loop .loop .next) (setting-of (loop .loop .setting)) in
+    let start = loop .before .before in
+    let p = tally-at (loop .loop .tally) (entries (loop .loop .values)) in
     sym (loop .loop .inv .1 ∙
     ap (λ (cs : List Clause). sweep cs p)
     (denied-done (start .args .file .now) (loop .loop .at) (loop .loop .left) (start .args .added) (c .loop-test .left)))
@@ -161,7 +158,6 @@ sweep-denied-spec =
     Inv-loop
     μ-loop
     loop-holds
-    enum-told
     returns
     literal-at-requires
     denial-requires
@@ -170,7 +166,7 @@ sweep-denied-spec =
     add-at
     sub-left
     enum-known-status
-    with-requires
+    set-true-requires
     loop-less
     loop-again
     loop-less-2

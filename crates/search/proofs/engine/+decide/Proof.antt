@@ -15,7 +15,7 @@ use Rattle.laws.specs.Setting.{unset-count, variable-negation}
 use Rattle.format.specs.Forms.{literal-of}
 use Rattle.search.specs.declared.Next.{Next}
 use Rattle.search.specs.Sweep.{passed, try}
-use Rattle.search.specs.Forms.{setting-of, pass-at, bounded}
+use Rattle.search.specs.Forms.{entries, setting-of, pass-at, bounded}
 use Rattle.search.specs.Places.{parts-clauses}
 use Rattle.search.specs.Engine.{search-at, Ready}
 use Rattle.search.proofs.BudgetLaws.{bounded-counts}
@@ -57,7 +57,7 @@ claims t = (
 )
 
 decide-propagate-requires : (t : ℕ) → lts.Need-propagate-requires (claims t) (decide-at t) decide.Post
-decide-propagate-requires t c κs = c .before .pre .1
+decide-propagate-requires t c κs = c .before .before .pre .1
 
 decide-enum-known-next : (t : ℕ) → lts.Need-enum-known-next (claims t) (decide-at t) decide.Post
 decide-enum-known-next t c = c .match .keys1
@@ -77,10 +77,10 @@ in-range t s = parts-within (s .args .file .now) (s .args .on .now) (s .args .q)
 
 decide-returns : (t : ℕ) → lts.Need-returns (claims t) (decide-at t) decide.Post
 decide-returns t c =
-    let p = c .before .before .before in
-    let s = p .before .before in
+    let p = c .before .before in
+    let s = p .before .before .before in
     c .ended .ensures ∙
-    ready-ended (cs t s) (v t s) (setting-of (p .propagate .result .setting)) (s .args .left) (p .propagate .result .next) (c .before .match .keys2)
+    ready-ended (cs t s) (v t s) (entries (p .propagate .last .1 .1 .1 .0)) (s .args .left) (p .propagate .result) (c .before .match .keys2)
     (p .propagate .ensures)
 
 -- where a literal is tried: the start, the setting and the literal
@@ -91,7 +91,7 @@ abbrev start : (t : ℕ) → Trying t → lts.Start (claims t) (decide-at t) dec
 start t c = c .before .before .before .before .before .before
 
 abbrev u : (t : ℕ) → Trying t → Setting
-u t c = setting-of (c .before .before .before .before .propagate .result .setting)
+u t c = entries (c .before .before .before .propagate .last .1 .1 .1 .0)
 
 abbrev l : (t : ℕ) → Trying t → Literal
 l t c = literal-of (c .before .next .given .0 .0)
@@ -99,7 +99,7 @@ l t c = literal-of (c .before .next .given .0 .0)
 ready : (t : ℕ) (c : Trying t) → Ready (cs t (start t c)) (v t (start t c)) (passed (u t c) (try (l t c)))
 ready t c =
     subst (λ (n : Next). Ready (cs t (start t c)) (v t (start t c)) (pass-at n (u t c))) (c .before .next .given .1)
-    (c .before .before .before .before .propagate .ensures)
+    (c .before .before .before .propagate .ensures)
 
 sized : (t : ℕ) (c : Trying t) → length (v t (start t c)) ≡ 513
 sized t c = start t c .pre .1 .1

@@ -1,7 +1,7 @@
 -- `sweep_all` meets its contract: a pass over lists one after another is the pass over all.
 use borrow.Author.Needs.{needs}
 use Rattle.search.specs.Sweep.{passed, satisfied}
-use Rattle.search.specs.Forms.{setting-of, pass-of}
+use Rattle.search.specs.Forms.{entries, tally-at}
 use Rattle.search.proofs.EngineLaws.{parts-swept}
 use Rattle.search.proofs.engine.sweep_all.Statement.{statement}
 use Rattle.search.proofs.engine.sweep_all.Tie as tie
@@ -20,14 +20,16 @@ sweep-denied-requires c κs = search needs
 
 returns : tie.Need-returns
 returns c =
-    let last = c .before in
-    let lemmas = last .before in
-    let first = lemmas .before in
-    let start = first .before .before in
-    parts-swept (start .args .file .now) (start .args .on .now) (start .args .q) (passed (setting-of (start .args .setting)) satisfied)
-    (pass-of (first .sweep-records .result)) (pass-of (lemmas .sweep-marked .result)) (pass-of (last .sweep-records2 .result))
-    (pass-of (c .sweep-denied .result)) (first .sweep-records .ensures) (lemmas .sweep-marked .ensures) (last .sweep-records2 .ensures)
-    (c .sweep-denied .ensures)
+    let last = c .before .before in
+    let lemmas = last .before .before in
+    let first = lemmas .before .before in
+    let start = first .before .before .before in
+    parts-swept (start .args .file .now) (start .args .on .now) (start .args .q) (passed (entries (start .args .values .now)) satisfied)
+    (tally-at (first .sweep-records .result) (entries (first .sweep-records .last .1 .1 .1 .0)))
+    (tally-at (lemmas .sweep-marked .result) (entries (lemmas .sweep-marked .last .1 .1 .1 .1 .0)))
+    (tally-at (last .sweep-records2 .result) (entries (last .sweep-records2 .last .1 .1 .1 .0)))
+    (tally-at (c .sweep-denied .result) (entries (c .sweep-denied .last .1 .1 .1 .1 .0)))
+    (first .sweep-records .ensures) (lemmas .sweep-marked .ensures) (last .sweep-records2 .ensures) (c .sweep-denied .ensures)
 
 pub sweep-all-spec : {M : Type 1} → statement M
 sweep-all-spec =
