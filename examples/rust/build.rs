@@ -1,10 +1,11 @@
 //! Links the proved library that `examples/build` makes.
 
-use std::path::Path;
+use std::path::PathBuf;
 
 fn main() {
     let (folder, name) = library();
-    let folder = Path::new(env!("CARGO_MANIFEST_DIR")).join("../../target").join(folder);
+    let here = PathBuf::from(std::env::var_os("CARGO_MANIFEST_DIR").expect("cargo names the folder"));
+    let folder = here.join("../../target").join(folder);
     let archive = folder.join(format!("lib{name}.a"));
     println!("cargo:rerun-if-changed={}", archive.display());
     if !archive.is_file() {
