@@ -3,7 +3,7 @@
 //! `include/trim.h` asks these duties of a caller, and the two calls below meet them in the same way:
 //!
 //! - `file` points to `file_len` readable bytes, `marks` or `rows` to so many writable ones, and neither is null even where
-//!   the length is 0: pointer and length are those of one slice, and a slice's pointer is never null, an empty one's either.
+//!   the length is 0: pointer and length are those of one slice, whose pointer is never null, not even an empty one's.
 //! - `report` points to seven words: it is an array of seven, which the calling function owns.
 //! - no two of them overlap: nothing else reaches what a `&mut [u8]` borrows, and the array is new.
 //!
