@@ -1,0 +1,27 @@
+# Where the toolchain is, and how a C program is built with it for x86-64 and run. Read by scripts with '.', from the project's folder.
+kit=$(dirname "$(dirname "$(rt doc)")")
+machine=$(uname -m)
+own=$kit/on/$machine
+[ -d "$own" ] || own=$kit
+tools=$own/toolchain
+clang=$tools/bin/clang
+emulator=$tools/bin/qemu-x86_64
+[ -x "$emulator" ] || emulator=
+
+# The toolchain has no C headers; those that need no C library (stddef.h, stdint.h) come with any compiler.
+headers() { gcc -print-file-name=include; }
+
+# A C program that calls the proved library.
+c_program() { # SOURCE PROGRAM
+    "$clang" --target=x86_64-unknown-linux-gnu -O2 -ffreestanding -isystem "$(headers)" -Wall -Wextra -Werror -Iinclude -c "$1" -o "$2.o"
+    "$own/bin/rattle-link" --target x86_64-unknown-linux-gnu --toolchain "$tools" -o "$2" "$2.o" target/staticlib/libtrim_c.a
+}
+
+# A script that runs a program built for x86-64: on another processor by the toolchain's emulator.
+runner() { # SCRIPT PROGRAM
+    cat >"$1" <<SCRIPT
+#!/bin/sh
+exec $emulator "$tools/lib/ld-linux-x86-64.so.2" --library-path "$tools/lib" "$2"
+SCRIPT
+    chmod +x "$1"
+}
