@@ -57,7 +57,8 @@ fn sift_at(file: &[u8], p: Problem, s: Marks, way: Way, done: Sifted, d: usize, 
     let used = done.used;
     let set = done.set;
     let removed = done.removed;
-    let a = search::ask(file, p, s, asking(way, d), left - used);
+    let whole = s; // and not what is left of it
+    let a = search::ask(file, p, whole, asking(way, d), left - used);
     match a {
         Found::Spent => Sifted {
             set,
