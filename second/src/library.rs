@@ -63,14 +63,6 @@ impl Subject for Library {
         // The number comes twice, and nothing around the lent bytes may change: else this is no answer.
         let right = word(0) == returned as u64 && kept == 1;
         let number = if right { word(0) } else { u64::MAX };
-        Report {
-            number,
-            place: word(1),
-            decisions: word(2),
-            rows: word(3),
-            n: word(4),
-            m: word(5),
-            k: word(6),
-        }
+        Report { number, place: word(1), decisions: word(2), rows: word(3), n: word(4), m: word(5), k: word(6) }
     }
 }

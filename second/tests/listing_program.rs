@@ -6,10 +6,13 @@ use std::fs;
 use std::io::Write;
 use std::path::{Path, PathBuf};
 use std::process::{Command, Stdio};
+use std::sync::Mutex;
+use std::thread;
 
 /// What a program prints for this standard input.
 fn printed(program: &OsStr, input: &[u8]) -> Vec<u8> {
-    let mut child = Command::new(program).stdin(Stdio::piped()).stdout(Stdio::piped()).spawn().expect("the program starts");
+    let mut child =
+        Command::new(program).stdin(Stdio::piped()).stdout(Stdio::piped()).spawn().expect("the program starts");
     let mut stdin = child.stdin.take().expect("its standard input");
     // A program that has read enough closes its end; that is no fault.
     let _ = stdin.write_all(input);
@@ -37,11 +40,21 @@ fn both_listing_programs_print_the_same_text() {
     let mut files = Vec::new();
     problem_files(&Path::new(env!("CARGO_MANIFEST_DIR")).join("../cases"), &mut files);
     assert!(files.len() > 100 && files.iter().any(|path| path.ends_with("ledger.problem")));
-    for path in files {
-        let input = fs::read(&path).expect("a file");
-        let second = printed(OsStr::new(env!("CARGO_BIN_EXE_second_list")), &input);
-        assert_eq!(printed(&proved, &input), second, "{}", path.display());
-    }
+    // The longest files first, two at a time.
+    files.sort_by_key(|path| fs::metadata(path).expect("a file").len());
+    let left = Mutex::new(files);
+    let next = || left.lock().expect("no turn fails while it holds the list").pop();
+    let turn = || {
+        while let Some(path) = next() {
+            let input = fs::read(&path).expect("a file");
+            let second = printed(OsStr::new(env!("CARGO_BIN_EXE_second_list")), &input);
+            assert_eq!(printed(&proved, &input), second, "{}", path.display());
+        }
+    };
+    thread::scope(|scope| {
+        scope.spawn(turn);
+        scope.spawn(turn);
+    });
     let long = vec![0; 65_537];
     assert_eq!(printed(&proved, &long), b"bad 1 0\n");
 }
