@@ -15,7 +15,7 @@ use Rattle.problem.specs.declared.Checked.the-variants.{Accepted, Refused}
 use Rattle.problem.specs.declared.Report.{Report}
 use Rattle.problem.specs.Answers.{reading-of-answer, report-of}
 use Rattle.problem.specs.Held.{length-section}
-use Rattle.jobs.specs.Asks.{asks}
+use Rattle.sets.specs.Asks.{asks}
 use Rattle.jobs.specs.Outcome.{outcome-of}
 
 -- k of the problem that stands at p

@@ -13,12 +13,12 @@ use Rattle.meaning.specs.Calls
 use Rattle.meaning.specs.Calls.{Outcome, refusal, marked, within, with-room, written}
 use Rattle.problem.specs.declared.Report.{Report}
 use Rattle.problem.specs.Answers.{report-of}
-use Rattle.jobs.specs.declared.rounds.Kept.{Kept}
-use Rattle.jobs.specs.declared.marking.Judged.{Judged}
+use Rattle.sets.specs.declared.rounds.Kept.{Kept}
+use Rattle.sets.specs.declared.picks.Judged.{Judged}
 use Rattle.jobs.specs.Outcome.{outcome-of}
-use Rattle.jobs.specs.Asks.{marks-at}
-use Rattle.jobs.specs.Forms.{KeptIf, KeptIs}
-use Rattle.jobs.specs.Single.{found-of, SingleAll, SingleIf, SingleIs}
+use Rattle.sets.specs.Asks.{marks-at}
+use Rattle.sets.specs.Forms.{KeptIf, KeptIs}
+use Rattle.sets.specs.Single.{found-of, SingleAll, SingleIf, SingleIs}
 
 -- spent, or the set that was found
 unfoldable pub left-by : ℕ → ℕ → Judged → List ℕ → Outcome

@@ -21,11 +21,11 @@ use Rattle.problem.specs.declared.Report.{Report}
 use Rattle.problem.specs.declared.Checked.{Checked}
 use Rattle.problem.specs.declared.Checked.the-variants.{Accepted, Refused}
 use Rattle.problem.specs.Answers.{reading-of-answer}
-use Rattle.jobs.specs.Asks.{marks-at, asks}
-use Rattle.jobs.specs.declared.marking.Judged.{Judged}
+use Rattle.sets.specs.Asks.{marks-at, asks}
+use Rattle.sets.specs.declared.picks.Judged.{Judged}
 use Rattle.jobs.specs.declared.nodes.Progress.{Progress}
 use Rattle.jobs.specs.declared.nodes.Progress.the-variants.{Going, Spent, Full}
-use Rattle.jobs.specs.Judging.{JudgedIs, judged-count, judged-spent, judged-in}
+use Rattle.sets.specs.Judging.{JudgedIs, judged-count, judged-spent, judged-in}
 use Rattle.jobs.specs.ListingProgress.{progress-of}
 use Rattle.jobs.specs.Outcome.{outcome-of}
 

@@ -10,7 +10,7 @@ use Rattle.meaning.specs.Rules.{Question, Answer, Rows, rows-after, no-rows, fa
 use Rattle.meaning.specs.Calls.{refusal}
 use Rattle.laws.specs.Feed
 use Rattle.laws.specs.Feed.{going, stopped, feed, feed-then}
-use Rattle.jobs.specs.Told.{Told}
+use Rattle.sets.specs.Told.{Told}
 use Rattle.jobs.specs.ListingProgress.{feed-in, feed-out, feed-nothing, one-row}
 
 -- the decisions of a question

@@ -10,12 +10,12 @@ use Rattle.meaning.specs.Calls.{refusal}
 use Rattle.laws.specs.Basics.{true-of-not, false-of-not}
 use Rattle.laws.specs.Feed.{going, stopped, feed}
 use Rattle.search.specs.declared.Marks.{Marks}
-use Rattle.jobs.specs.Asks.{marks-at}
-use Rattle.jobs.specs.declared.rounds.Kept.{Kept}
-use Rattle.jobs.specs.declared.marking.Judged.{Judged}
-use Rattle.jobs.specs.Forms.{KeptIs, KeptAll}
-use Rattle.jobs.specs.Keeping.{kept-over, kept-all, kept-spent, kept-in}
-use Rattle.jobs.specs.Judging.{JudgedIs, JudgedFrom, judged-count, judged-over, judged-spent, judged-in, from-kept}
+use Rattle.sets.specs.Asks.{marks-at}
+use Rattle.sets.specs.declared.rounds.Kept.{Kept}
+use Rattle.sets.specs.declared.picks.Judged.{Judged}
+use Rattle.sets.specs.Forms.{KeptIs, KeptAll}
+use Rattle.sets.specs.Keeping.{kept-over, kept-all, kept-spent, kept-in}
+use Rattle.sets.specs.Judging.{JudgedIs, JudgedFrom, judged-count, judged-over, judged-spent, judged-in, from-kept}
 use Rattle.jobs.specs.ListingProgress.{feed-in, feed-out, feed-nothing, feed-in-twice, feed-out-twice}
 
 -- the set of a judged one, as it was kept

@@ -1,12 +1,8 @@
 // The public jobs over the questions of `search`: mark the largest inductive subset, mark one minimal safe inductive subset, list all of them.
 mod listing;
-mod marking;
 mod marks;
 mod nodes;
-mod questions;
-mod rounds;
 mod rows;
-mod sets;
 
 pub use listing::list_all;
 pub use marks::mark_largest;

@@ -6,20 +6,20 @@ ghost use Rattle.meaning.specs.Rules;
 ghost use Rattle.meaning.specs.Calls;
 ghost use Rattle.meaning.specs.Calls.{«list-call»};
 ghost use Rattle.format.specs.Section.{Placed};
-ghost use Rattle.jobs.specs.Asks.{asks};
+ghost use Rattle.sets.specs.Asks.{asks};
 ghost use Rattle.jobs.specs.Outcome.{«outcome-of»};
 ghost use Rattle.jobs.specs.ListingCall.{«reported-as», «report-at»};
-use crate::marking::judge;
-use crate::marking::largest;
 use crate::marks::refused;
 use crate::nodes::Progress;
 use crate::nodes::node;
-use crate::sets::count;
-use crate::sets::nothing;
 use format::Problem;
 use problem::Checked;
 use problem::Report;
 use problem::read_problem;
+use sets::members::count;
+use sets::members::nothing;
+use sets::picks::judge;
+use sets::picks::largest;
 
 // What a listing returns: its number, the decisions counted and the rows kept.
 fn reported(number: u32, decisions: u64, rows: usize) -> Report

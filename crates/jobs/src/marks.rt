@@ -9,13 +9,13 @@ ghost use Rattle.format.specs.Section.{Placed, «problem-at»};
 ghost use Rattle.problem.specs.Answers.{«report-of»};
 ghost use Rattle.jobs.specs.Outcome.{«outcome-of»};
 ghost use Rattle.jobs.specs.Leaving.{«left-by»};
-use crate::marking::Judged;
-use crate::marking::largest;
-use crate::marking::single;
 use crate::rows::write_row;
 use format::Problem;
 use problem::Checked;
 use problem::Report;
+use sets::picks::Judged;
+use sets::picks::largest;
+use sets::picks::single;
 
 // A refusal returns its number, place and decisions and, for a listing, the rows kept, and no n, m or k.
 pub fn refused(number: u32, place: usize, decisions: usize, rows: usize) -> Report

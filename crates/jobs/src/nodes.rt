@@ -6,22 +6,22 @@ ghost use Prim.Native.Nat.{ℕ};
 ghost use lib.ListN.{length, getD};
 ghost use Rattle.meaning.specs.Rules;
 ghost use Rattle.format.specs.Section.{Placed};
-ghost use Rattle.jobs.specs.Asks.{«marks-at», asks};
+ghost use Rattle.sets.specs.Asks.{«marks-at», asks};
 ghost use Rattle.jobs.specs.ListingProgress.{Ready, FedBy, «one-row»};
 ghost use Rattle.jobs.specs.ListingSets.{«place-of», PlaceIn};
 ghost use Rattle.jobs.specs.ListingSide.{SideIs};
-use crate::marking::Judged;
-use crate::marking::judge;
-use crate::questions::Each;
-use crate::questions::failing;
-use crate::questions::first_yes;
-use crate::rounds::rounds;
 use crate::rows::write_row;
-use crate::sets::less;
-use crate::sets::more;
 use format::Problem;
 use search::Found;
 use search::Marks;
+use sets::members::less;
+use sets::members::more;
+use sets::picks::Judged;
+use sets::picks::judge;
+use sets::questions::Each;
+use sets::questions::failing;
+use sets::questions::first_yes;
+use sets::rounds::rounds;
 
 // Where a listing stands: going on, with the rows and the decisions so far; ended by the budget; or by a row that doesn't fit.
 pub enum Progress {

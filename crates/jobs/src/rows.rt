@@ -4,7 +4,7 @@ ghost use Prim.Native.Nat.{_≤_};
 ghost use lib.ListN.{length};
 ghost use Rattle.meaning.specs.Calls.{written};
 ghost use Rattle.meaning.specs.Calls;
-ghost use Rattle.jobs.specs.Asks.{«marks-at»};
+ghost use Rattle.sets.specs.Asks.{«marks-at»};
 use search::Marks;
 
 // A mark is one byte, 1 for in and 0 for out.

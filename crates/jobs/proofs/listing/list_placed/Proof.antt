@@ -9,11 +9,11 @@ use borrow.Author.Needs.{needs}
 use Rattle.meaning.specs.Rules
 use Rattle.laws.specs.Basics.{false-of-not, true-of-not}
 use Rattle.laws.specs.Feed.{finish}
-use Rattle.jobs.specs.Asks.{marks-at, asks}
+use Rattle.sets.specs.Asks.{marks-at, asks}
 use Rattle.problem.specs.declared.Report.{Report}
-use Rattle.jobs.specs.SetLaws.{every-mark}
-use Rattle.jobs.specs.Keeping.{kept-used}
-use Rattle.jobs.specs.Judging.{JudgedIs, from-kept}
+use Rattle.sets.specs.SetLaws.{every-mark}
+use Rattle.sets.specs.Keeping.{kept-used}
+use Rattle.sets.specs.Judging.{JudgedIs, from-kept}
 use Rattle.jobs.specs.Outcome.{outcome-of}
 use Rattle.jobs.specs.ListingCall.{report-refused, report-finish, call-spent, call-used, call-unsafe, call-safe}
 use Rattle.jobs.proofs.listing.list_placed.Statement.{statement}
@@ -22,11 +22,11 @@ use Rattle.jobs.proofs.listing.list_placed.Reads as reads
 use Rattle.jobs.proofs.listing.list_placed.Lts as lts
 use Rattle.jobs.proofs.listing.finish.Reads as finish-reads
 use Rattle.jobs.proofs.listing.reported.Reads as reported-reads
-use Rattle.jobs.proofs.marking.judge.Reads as judge-reads
-use Rattle.jobs.proofs.marking.largest.Reads as largest-reads
+use Rattle.sets.proofs.picks.judge.Reads as judge-reads
+use Rattle.sets.proofs.picks.largest.Reads as largest-reads
 use Rattle.jobs.proofs.nodes.node.Reads as node-reads
-use Rattle.jobs.proofs.sets.count.Reads as count-reads
-use Rattle.jobs.proofs.sets.nothing.Reads as nothing-reads
+use Rattle.sets.proofs.members.count.Reads as count-reads
+use Rattle.sets.proofs.members.nothing.Reads as nothing-reads
 
 -- src/listing.rt:52:28
 largest-requires : tie.Need-largest-requires

@@ -1,7 +1,7 @@
 -- `jobs::marks::largest_of` meets its contract. Assumes nothing.
 use mathlib.Core.Path.{sym, _∙_}
 use native.Mathlib.Omega.{arith}
-use Rattle.jobs.specs.Asks.{asks}
+use Rattle.sets.specs.Asks.{asks}
 use Rattle.jobs.specs.Leaving.{no-room, largest-left}
 use Rattle.jobs.specs.Calling.{refused-outcome, largest-job-at}
 use borrow.Author.Needs.{needs}
@@ -9,7 +9,7 @@ use Rattle.jobs.proofs.marks.largest_of.Statement.{statement}
 use Rattle.jobs.proofs.marks.largest_of.Tie as tie
 use Rattle.jobs.proofs.marks.largest_of.Reads as reads
 use Rattle.jobs.proofs.marks.largest_of.Lts as lts
-use Rattle.jobs.proofs.marking.largest.Reads as largest-reads
+use Rattle.sets.proofs.picks.largest.Reads as largest-reads
 use Rattle.jobs.proofs.marks.leave.Reads as leave-reads
 use Rattle.jobs.proofs.marks.refused.Reads as refused-reads
 

@@ -14,10 +14,10 @@ use borrow.Fn.PlainCycle.{Measures, is, falls, and}
 use Rattle.meaning.specs.Rules
 use Rattle.laws.specs.Basics.{false-of-not, true-of-not}
 use Rattle.laws.specs.Feed
-use Rattle.jobs.specs.Asks.{marks-at, asks}
+use Rattle.sets.specs.Asks.{marks-at, asks}
 use Rattle.jobs.specs.declared.nodes.Progress.{Progress}
 use Rattle.jobs.specs.declared.nodes.Progress.the-variants.{Going, Spent, Full}
-use Rattle.jobs.specs.Told.{Told, told-by}
+use Rattle.sets.specs.Told.{Told, told-by}
 use Rattle.jobs.specs.ListingSets.{place-of, PlaceIn}
 use Rattle.jobs.specs.ListingProgress.{progress-of, Ready, Sound, Fed, sound-in}
 use Rattle.jobs.specs.ListingSide.{exclude-used, exclude-spent, exclude-shut, exclude-open}
@@ -35,8 +35,8 @@ use Rattle.jobs.proofs.nodes.+branch+exclude+node.Lts-node as node-lts
 use Rattle.jobs.proofs.nodes.lowest.Reads as lowest-reads
 use Rattle.jobs.proofs.nodes.narrowed.Reads as narrowed-reads
 use Rattle.jobs.proofs.nodes.row_of.Reads as row-of-reads
-use Rattle.jobs.proofs.questions.failing.Reads as failing-reads
-use Rattle.jobs.proofs.sets.more.Reads as more-reads
+use Rattle.sets.proofs.questions.failing.Reads as failing-reads
+use Rattle.sets.proofs.members.more.Reads as more-reads
 use Rattle.jobs.proofs.nodes.+branch+exclude+node.{statement}
 use Rattle.jobs.proofs.nodes.+branch+exclude+node.Tie.{close}
 

@@ -6,8 +6,8 @@ use mathlib.Core.Bool.{Bool, false, not, _&&_}
 use lib.ListN.{length}
 use borrow.Author.Needs.{needs}
 use Rattle.meaning.specs.Meaning.{has}
-use Rattle.jobs.specs.Asks.{marks-at}
-use Rattle.jobs.specs.SetLaws.{marks-long, has-on}
+use Rattle.sets.specs.Asks.{marks-at}
+use Rattle.sets.specs.SetLaws.{marks-long, has-on}
 use Rattle.jobs.specs.ListingSets.{LowestLeft, lowest-here, lowest-on, lowest-none}
 use Rattle.jobs.proofs.nodes.lowest.Statement.{statement}
 use Rattle.jobs.proofs.nodes.lowest.Tie as tie

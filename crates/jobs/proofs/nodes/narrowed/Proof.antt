@@ -3,9 +3,9 @@ use mathlib.Core.Path.{_≡_, sym, ap, subst, _∙_}
 use Rattle.meaning.specs.Meaning
 use Rattle.meaning.specs.Rules.{rounds, reduced}
 use Rattle.laws.specs.Basics.{false-of-not, true-of-not}
-use Rattle.jobs.specs.Asks.{marks-at, asks}
-use Rattle.jobs.specs.Forms.{KeptIs}
-use Rattle.jobs.specs.Keeping.{kept-used}
+use Rattle.sets.specs.Asks.{marks-at, asks}
+use Rattle.sets.specs.Forms.{KeptIs}
+use Rattle.sets.specs.Keeping.{kept-used}
 use Rattle.jobs.specs.ListingSide.{side-spent, side-shut, side-judged}
 use borrow.Author.Needs.{needs}
 use Rattle.jobs.proofs.nodes.narrowed.Statement.{statement}
@@ -13,9 +13,9 @@ use Rattle.jobs.proofs.nodes.narrowed.Tie as tie
 use Rattle.jobs.proofs.nodes.narrowed.Reads as reads
 use Rattle.jobs.proofs.nodes.narrowed.Lts as lts
 use Rattle.jobs.proofs.nodes.contains.Reads as contains-reads
-use Rattle.jobs.proofs.marking.judge.Reads as judge-reads
-use Rattle.jobs.proofs.rounds.rounds.Reads as rounds-reads
-use Rattle.jobs.proofs.sets.less.Reads as less-reads
+use Rattle.sets.proofs.picks.judge.Reads as judge-reads
+use Rattle.sets.proofs.rounds.rounds.Reads as rounds-reads
+use Rattle.sets.proofs.members.less.Reads as less-reads
 
 -- src/nodes.rt:84:29
 less-requires : tie.Need-less-requires

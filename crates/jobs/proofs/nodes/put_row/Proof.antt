@@ -7,7 +7,7 @@ use mathlib.Core.Path.{_≡_, refl, sym, ap, ap₂, subst, _∙_}
 use mathlib.Core.List.{List, _++_}
 use lib.ListN.{length, take, drop}
 use borrow.Author.Needs.{needs}
-use Rattle.jobs.specs.Asks.{marks-at}
+use Rattle.sets.specs.Asks.{marks-at}
 use Rattle.laws.specs.Feed.{going}
 use Rattle.jobs.specs.RowLaws.{row-back}
 use Rattle.jobs.specs.ListingProgress.{row-full, row-put, rows-below}

@@ -3,7 +3,7 @@ use native.Mathlib.Omega.{arith}
 use mathlib.Core.Path.{_≡_, sym, ap, subst, _∙_}
 use borrow.Author.Needs.{needs}
 use Rattle.meaning.specs.Rules.{smaller}
-use Rattle.jobs.specs.Told.{Told, told-by}
+use Rattle.sets.specs.Told.{Told, told-by}
 use Rattle.jobs.specs.ListingProgress.{Fed}
 use Rattle.jobs.specs.ListingNode.{told-used, row-spent, row-smaller, row-found}
 use Rattle.jobs.proofs.nodes.row_of.Statement.{statement}
@@ -11,7 +11,7 @@ use Rattle.jobs.proofs.nodes.row_of.Tie as tie
 use Rattle.jobs.proofs.nodes.row_of.Reads as reads
 use Rattle.jobs.proofs.nodes.row_of.Lts as lts
 use Rattle.jobs.proofs.nodes.put_row.Reads as put-row-reads
-use Rattle.jobs.proofs.questions.first_yes.Reads as first-yes-reads
+use Rattle.sets.proofs.questions.first_yes.Reads as first-yes-reads
 
 -- src/nodes.rt:130:50
 sub-first-yes : tie.Need-sub-first-yes

@@ -6,7 +6,7 @@ use mathlib.Core.List.{List}
 use lib.ListN.{length, take, set, length-set}
 use borrow.Author.Needs.{needs}
 use Rattle.meaning.specs.Calls.{written}
-use Rattle.jobs.specs.Asks.{marks-at}
+use Rattle.sets.specs.Asks.{marks-at}
 use Rattle.jobs.specs.RowLaws.{row-start, row-next}
 use Rattle.jobs.proofs.rows.write_row.Statement.{statement}
 use Rattle.jobs.proofs.rows.write_row.Tie as tie
