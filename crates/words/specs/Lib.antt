@@ -2,6 +2,8 @@
 pub mod Words
 pub mod Numbers
 pub mod Orders
+pub mod Texts
 pub mod WordLaws
 pub mod OrderLaws
 pub mod Cases
+pub mod TextCases

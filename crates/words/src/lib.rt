@@ -2,6 +2,7 @@
 mod compare;
 mod number;
 mod order;
+mod texts;
 
 pub use compare::same;
 pub use number::Number;
@@ -14,3 +15,8 @@ pub use order::faulty;
 pub use order::finish;
 pub use order::is_file;
 pub use order::take;
+pub use texts::fault_line;
+pub use texts::help_text;
+pub use texts::not_opened;
+pub use texts::not_read;
+pub use texts::version_line;
