@@ -3,4 +3,6 @@ pub mod Answers
 pub mod AnswerLaws
 pub mod Lemmas
 pub mod LemmaLaws
+pub mod Places
+pub mod PlaceLaws
 pub mod Cases

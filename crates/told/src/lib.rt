@@ -3,6 +3,7 @@
 // bytes past the file's end read as 0.
 mod answers;
 mod lemmas;
+mod places;
 
 pub use answers::Job;
 pub use answers::answer_line;
