@@ -5,4 +5,6 @@ pub mod Lemmas
 pub mod LemmaLaws
 pub mod Places
 pub mod PlaceLaws
+pub mod Faults
+pub mod FaultLaws
 pub mod Cases
