@@ -7,4 +7,5 @@ pub mod Places
 pub mod PlaceLaws
 pub mod Faults
 pub mod FaultLaws
+pub mod Refusals
 pub mod Cases

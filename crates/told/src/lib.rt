@@ -5,6 +5,7 @@ mod answers;
 mod faults;
 mod lemmas;
 mod places;
+mod refusals;
 
 pub use answers::Job;
 pub use answers::answer_line;
@@ -12,3 +13,4 @@ pub use answers::count_marks;
 pub use answers::marks_line;
 pub use answers::set_line;
 pub use lemmas::lemma_line;
+pub use refusals::refusal_line;
