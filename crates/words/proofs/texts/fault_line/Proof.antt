@@ -4,11 +4,6 @@ use Rattle.words.specs.Texts.{fault-text}
 use borrow.Author.Needs.{needs}
 use Rattle.words.proofs.texts.fault_line.Statement.{statement}
 use Rattle.words.proofs.texts.fault_line.Tie as tie
-use Rattle.words.proofs.texts.fault_line.Reads as reads
-use Rattle.words.proofs.texts.fault_line.Lts as lts
-use Rattle.text.proofs.put_all.Reads as put-all-reads
-use Rattle.words.proofs.texts.put_around.Reads as put-around-reads
-use Rattle.words.proofs.texts.put_number_fault.Reads as put-number-fault-reads
 
 enum-told : tie.Need-enum-told
 enum-told c = search needs

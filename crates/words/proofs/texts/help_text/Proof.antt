@@ -4,9 +4,6 @@ use Rattle.words.specs.Texts.{help-text}
 use borrow.Author.Needs.{needs}
 use Rattle.words.proofs.texts.help_text.Statement.{statement}
 use Rattle.words.proofs.texts.help_text.Tie as tie
-use Rattle.words.proofs.texts.help_text.Reads as reads
-use Rattle.words.proofs.texts.help_text.Lts as lts
-use Rattle.text.proofs.put_all.Reads as put-all-reads
 
 slice-aggregate-put-all : tie.Need-slice-aggregate-put-all
 slice-aggregate-put-all c = search needs

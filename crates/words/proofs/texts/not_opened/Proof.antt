@@ -4,9 +4,6 @@ use Rattle.words.specs.Texts.{not-opened}
 use borrow.Author.Needs.{needs}
 use Rattle.words.proofs.texts.not_opened.Statement.{statement}
 use Rattle.words.proofs.texts.not_opened.Tie as tie
-use Rattle.words.proofs.texts.not_opened.Reads as reads
-use Rattle.words.proofs.texts.not_opened.Lts as lts
-use Rattle.words.proofs.texts.put_around.Reads as put-around-reads
 
 slice-aggregate-put-around : tie.Need-slice-aggregate-put-around
 slice-aggregate-put-around c = search needs

@@ -4,9 +4,6 @@ use Rattle.words.specs.Texts.{not-read}
 use borrow.Author.Needs.{needs}
 use Rattle.words.proofs.texts.not_read.Statement.{statement}
 use Rattle.words.proofs.texts.not_read.Tie as tie
-use Rattle.words.proofs.texts.not_read.Reads as reads
-use Rattle.words.proofs.texts.not_read.Lts as lts
-use Rattle.words.proofs.texts.put_around.Reads as put-around-reads
 
 slice-aggregate-put-around : tie.Need-slice-aggregate-put-around
 slice-aggregate-put-around c = search needs

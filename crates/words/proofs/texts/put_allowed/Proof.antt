@@ -1,14 +1,9 @@
 -- `words::texts::put_allowed` goes by how many words are named. Assumes nothing.
-use mathlib.Core.Path.{sym}
 use borrow.Author.Tests.{eq-eqb, ne-eqb}
-use Rattle.text.specs.PageLaws.{appends-is}
 use Rattle.words.specs.Texts.{allowed}
 use borrow.Author.Needs.{needs}
 use Rattle.words.proofs.texts.put_allowed.Statement.{statement}
 use Rattle.words.proofs.texts.put_allowed.Tie as tie
-use Rattle.words.proofs.texts.put_allowed.Reads as reads
-use Rattle.words.proofs.texts.put_allowed.Lts as lts
-use Rattle.text.proofs.put_all.Reads as put-all-reads
 
 slice-aggregate-put-all : tie.Need-slice-aggregate-put-all
 slice-aggregate-put-all c = search needs

@@ -4,10 +4,6 @@ use Rattle.words.specs.Texts.{around}
 use borrow.Author.Needs.{needs}
 use Rattle.words.proofs.texts.put_around.Statement.{statement}
 use Rattle.words.proofs.texts.put_around.Tie as tie
-use Rattle.words.proofs.texts.put_around.Reads as reads
-use Rattle.words.proofs.texts.put_around.Lts as lts
-use Rattle.text.proofs.put_all.Reads as put-all-reads
-use Rattle.words.proofs.texts.put_word.Reads as put-word-reads
 
 put-all-requires : tie.Need-put-all-requires
 put-all-requires c κs = search needs

@@ -4,10 +4,6 @@ use Rattle.words.specs.Texts.{number-text}
 use borrow.Author.Needs.{needs}
 use Rattle.words.proofs.texts.put_number_fault.Statement.{statement}
 use Rattle.words.proofs.texts.put_number_fault.Tie as tie
-use Rattle.words.proofs.texts.put_number_fault.Reads as reads
-use Rattle.words.proofs.texts.put_number_fault.Lts as lts
-use Rattle.words.proofs.texts.put_allowed.Reads as put-allowed-reads
-use Rattle.words.proofs.texts.put_around.Reads as put-around-reads
 
 slice-aggregate-put-around : tie.Need-slice-aggregate-put-around
 slice-aggregate-put-around c = search needs

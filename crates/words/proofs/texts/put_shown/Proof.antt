@@ -1,19 +1,15 @@
 -- `words::texts::put_shown` meets its contract: the bytes from i on are left to write. Assumes nothing.
 use Prim.Native.Nat.{ℕ, _+_, _≤_, _-_}
-use mathlib.Core.Path.{_≡_, refl, sym, ap, subst, _∙_}
-use mathlib.Core.List.{List, [], _∷_, _++_, map, append-nil}
+use mathlib.Core.Path.{_≡_, refl, sym, ap, _∙_}
+use mathlib.Core.List.{[], _∷_, _++_, map, append-nil}
 use native.Mathlib.Omega.{arith}
-use lib.ListN.{length, drop, getD}
+use lib.ListN.{length, drop}
 use borrow.Author.Needs.{needs}
 use Rattle.text.specs.PageLaws.{Leaves, leaves-all, leaves-is, appends-none, appends-is}
 use Rattle.text.specs.LineLaws.{mark-more, marks-done}
 use Rattle.words.specs.Texts.{shown-byte}
 use Rattle.words.proofs.texts.put_shown.Statement.{statement}
 use Rattle.words.proofs.texts.put_shown.Tie as tie
-use Rattle.words.proofs.texts.put_shown.Reads as reads
-use Rattle.words.proofs.texts.put_shown.Lts as lts
-use Rattle.text.proofs.put.Reads as put-reads
-use Rattle.words.proofs.texts.shown_byte.Reads as shown-byte-reads
 
 abbrev Inv-loop : tie.InvT-loop
 Inv-loop out₀ at bytes next₀ i₀ out next i =

@@ -8,9 +8,6 @@ use Rattle.words.specs.Texts.{shown-byte, shown}
 use borrow.Author.Needs.{needs}
 use Rattle.words.proofs.texts.put_word.Statement.{statement}
 use Rattle.words.proofs.texts.put_word.Tie as tie
-use Rattle.words.proofs.texts.put_word.Reads as reads
-use Rattle.words.proofs.texts.put_word.Lts as lts
-use Rattle.words.proofs.texts.put_shown.Reads as put-shown-reads
 
 put-shown-requires : tie.Need-put-shown-requires
 put-shown-requires c κs = search needs

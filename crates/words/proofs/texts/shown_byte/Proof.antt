@@ -3,8 +3,6 @@ use borrow.Author.Tests.{le-leb, lt-leb}
 use Rattle.words.specs.Texts.{shown-byte}
 use Rattle.words.proofs.texts.shown_byte.Statement.{statement}
 use Rattle.words.proofs.texts.shown_byte.Tie as tie
-use Rattle.words.proofs.texts.shown_byte.Reads as reads
-use Rattle.words.proofs.texts.shown_byte.Lts as lts
 
 returns : tie.Need-returns
 unfolding shown-byte
