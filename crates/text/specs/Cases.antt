@@ -5,6 +5,7 @@ use mathlib.Core.List.{List, [], _∷_, _++_}
 use Rattle.meaning.specs.Calls.{Report}
 use Rattle.text.specs.Ascii.{ascii}
 use Rattle.text.specs.Numbers.{digit, digits, decimal}
+use Rattle.text.specs.Filled.{filled}
 use Rattle.text.specs.Listing.{first-line, mark-digit, row-lines, listed, refused, listing-text}
 
 -- a listing's report
@@ -31,3 +32,16 @@ case-I = refl
 case-L : listing-text (report 2 42 0 0) 0 [] ≡ ascii "bad 2 42\n"
 unfolding report listing-text refused first-line decimal digits digit
 case-L = refl
+
+-- a form with three places, one with none, and one with more than three
+case-filled : filled (ascii "# of #, #\n") 12 0 305 ≡ ascii "12 of 0, 305\n"
+unfolding filled decimal digits digit
+case-filled = refl
+
+case-no-place : filled (ascii "none") 1 2 3 ≡ ascii "none"
+unfolding filled
+case-no-place = refl
+
+case-fourth-place : filled (ascii "####") 1 2 3 ≡ ascii "1230"
+unfolding filled decimal digits digit
+case-fourth-place = refl

@@ -5,6 +5,7 @@ pub mod Numbers
 pub mod Listing
 pub mod PageLaws
 pub mod NumberLaws
+pub mod Filled
 pub mod LineLaws
 pub mod ListingLaws
 pub mod Cases

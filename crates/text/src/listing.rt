@@ -24,7 +24,7 @@ fn put_line(out: &mut [u8], word: &[u8], a: u64, b: u64) -> usize
 }
 
 // A row in digits, and its line's end.
-fn put_row(out: &mut [u8], at: usize, row: &[u8]) -> usize
+pub fn put_row(out: &mut [u8], at: usize, row: &[u8]) -> usize
     ensures { λ r. ⌜ Appends (map «mark-digit» (now (row .entry)) ++ (10 ∷ [])) (now (out .entry)) at (now (out .exit)) r ⌝ }
 {
     let mut next = at;

@@ -1,0 +1,11 @@
+-- Which texts the program tells, and the laws by which they are written.
+pub mod Answers
+pub mod AnswerLaws
+pub mod Lemmas
+pub mod LemmaLaws
+pub mod Places
+pub mod PlaceLaws
+pub mod Faults
+pub mod FaultLaws
+pub mod Refusals
+pub mod Cases

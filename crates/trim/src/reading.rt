@@ -1,0 +1,90 @@
+// The file: opened, read whole, and handed to the job.
+use crate::answers;
+use crate::page;
+use words::Order;
+ghost use mathlib.Core.Path.{_≡_};
+ghost use Prim.Native.Nat.{_+_, _≤_};
+ghost use lib.ListN.{length};
+
+// One byte more than a file may have, so that a longer one is refused and not cut.
+fn room() -> [u8; 65537]
+    ensures { λ r. ⌜ 65537 ≡ length r ⌝ }
+{
+    [0; 65537]
+}
+
+// Reads once, and answers how many bytes that were; where it fails, one more than buf has.
+fn read_once(fd: i32, buf: &mut [u8]) -> usize
+    ensures { λ r. ⌜ r ≤ length (now (buf .entry)) + 1 ⌝ }
+{
+    let got = libc::read(fd, buf);
+    if got < 0 {
+        return buf.len() + 1;
+    }
+    io::count(got, buf)
+}
+
+// Reads until buf is full or the input ends, and answers how many bytes that were; where a read fails, one more than buf has.
+fn read_all(fd: i32, buf: &mut [u8]) -> usize {
+    let most = buf.len();
+    let mut done: usize = 0;
+    while done < most {
+        let n = read_once(fd, &mut buf[done..]);
+        if most - done < n {
+            return most + 1;
+        }
+        if n == 0 {
+            return done;
+        }
+        done += n;
+    }
+    done
+}
+
+fn tell_not_opened(name: &[u8]) {
+    let mut page = page::line();
+    let end = words::not_opened(name, &mut page);
+    page::fail(&page, end);
+}
+
+fn tell_not_read(name: &[u8]) {
+    let mut page = page::line();
+    let end = words::not_read(name, &mut page);
+    page::fail(&page, end);
+}
+
+fn work_on(order: Order, name: &[u8], file: &[u8], n: usize) {
+    if file.len() < n {
+        tell_not_read(name);
+        return;
+    }
+    answers::answer(order, &file[..n]);
+}
+
+fn read_from(order: Order, name: &[u8], fd: i32) {
+    let mut file = room();
+    let n = read_all(fd, &mut file);
+    work_on(order, name, &file, n);
+}
+
+// A dash is standard input.
+fn work_named(order: Order, name: &[u8]) {
+    if words::same(name, b"-") {
+        read_from(order, name, libc::STDIN_FILENO);
+        return;
+    }
+    let fd = os::open_read(name);
+    if fd < 0 {
+        tell_not_opened(name);
+        return;
+    }
+    read_from(order, name, fd);
+    libc::close(fd);
+}
+
+// The job on the file that a word names.
+pub fn work(order: Order, i: usize) {
+    let mut buf = io::large_buffer();
+    let n = os::arg(i, &mut buf);
+    work_named(order, &buf[..n]);
+}
