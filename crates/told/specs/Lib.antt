@@ -6,6 +6,6 @@ pub mod LemmaLaws
 pub mod Places
 pub mod PlaceLaws
 pub mod Faults
-pub mod FaultLaws
 pub mod Refusals
 pub mod Cases
+pub mod RefusalCases
