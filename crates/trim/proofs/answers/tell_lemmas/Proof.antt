@@ -5,6 +5,9 @@ use lib.ListN.{length}
 use borrow.Author.Needs.{needs}
 use Rattle.trim.proofs.answers.tell_lemmas.Statement.{statement}
 use Rattle.trim.proofs.answers.tell_lemmas.Tie as tie
+use Rattle.trim.proofs.answers.tell_lemmas.Reads as reads
+use Rattle.trim.proofs.answers.tell_lemmas.Lts as lts
+use Rattle.trim.proofs.answers.tell_lemma.Reads as tell-lemma-reads
 
 abbrev Inv-loop : tie.InvT-loop
 Inv-loop file marks i₀ i = Unit {0}

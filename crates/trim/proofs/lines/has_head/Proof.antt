@@ -1,0 +1,30 @@
+-- `trim::lines::has_head` makes the definition's tests, one after another. Assumes nothing.
+use borrow.Author.Tests.{eq-eqb, ne-eqb, not-true, not-false}
+use Rattle.trim.specs.Lines.{has-head}
+use Rattle.trim.proofs.lines.has_head.Statement.{statement}
+use Rattle.trim.proofs.lines.has_head.Tie as tie
+use Rattle.trim.proofs.lines.has_head.Reads as reads
+use Rattle.trim.proofs.lines.has_head.Lts as lts
+
+returns : tie.Need-returns
+unfolding has-head
+returns c = rw (eq-eqb _ 0 (c .if1 .taken))
+
+returns-2 : tie.Need-returns-2
+unfolding has-head
+returns-2 c = rw (ne-eqb _ 0 (c .before .if1 .left), not-true (c .before .before .args .list) (c .if2 .taken))
+
+returns-3 : tie.Need-returns-3
+unfolding has-head
+returns-3 c =
+    let a = c .before .before .before .args in
+    rw (ne-eqb _ 0 (c .before .before .if1 .left), not-false (a .list) (c .before .if2 .left), eq-eqb (a .number) 10 (c .if3 .taken))
+
+returns-4 : tie.Need-returns-4
+unfolding has-head
+returns-4 c =
+    let a = c .before .before .before .args in
+    rw (ne-eqb _ 0 (c .before .before .if1 .left), not-false (a .list) (c .before .if2 .left), ne-eqb (a .number) 10 (c .if3 .left))
+
+pub has-head-spec : {M : Type 1} → statement M
+has-head-spec = tie.close (tie.spec returns returns-2 returns-3 returns-4)

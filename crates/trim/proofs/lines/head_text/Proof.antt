@@ -1,0 +1,91 @@
+-- `trim::lines::head_text` makes the definition's tests, one after another. Assumes nothing.
+use Prim.Native.Nat.{ℕ, min, _≤_}
+use mathlib.Core.Path.{_≡_, sym, ap, _∙_}
+use mathlib.Core.Bool.{Bool}
+use mathlib.Core.List.{List}
+use native.Mathlib.Omega.{arith}
+use lib.ListN.{length, take}
+use lib.Seq.{length-take-le}
+use borrow.Author.Tests.{not-true, not-false}
+use Rattle.text.specs.PageLaws.{holds-none}
+use Rattle.told.specs.Answers.{marked}
+use Rattle.trim.specs.Lines.{has-head, head-text}
+use Rattle.trim.specs.LineLaws.{kept-is}
+use borrow.Author.Needs.{needs}
+use Rattle.trim.proofs.lines.head_text.Statement.{statement}
+use Rattle.trim.proofs.lines.head_text.Tie as tie
+use Rattle.trim.proofs.lines.head_text.Reads as reads
+use Rattle.trim.proofs.lines.head_text.Lts as lts
+use Rattle.told.proofs.answer_line.Reads as answer-line-reads
+use Rattle.told.proofs.count_marks.Reads as count-marks-reads
+use Rattle.trim.proofs.lines.has_head.Reads as has-head-reads
+use Rattle.trim.proofs.lines.is_list.Reads as is-list-reads
+use Rattle.trim.proofs.lines.k_of.Reads as k-of-reads
+use Rattle.trim.proofs.lines.set_end.Reads as set-end-reads
+
+returns : tie.Need-returns
+unfolding head-text
+returns c = rw (c .if1 .taken) (holds-none _)
+
+is-list-requires : tie.Need-is-list-requires
+is-list-requires c κs = search needs
+
+has-head-requires : tie.Need-has-head-requires
+has-head-requires c κs = search needs
+
+returns-2 : tie.Need-returns-2
+unfolding head-text
+returns-2 c =
+    let a = c .before .before .before .before .before .before .before .args in
+    let h = c .before .has-head .ensures ∙ ap (λ (b : Bool). has-head b (a .r .number)) (c .before .before .is-list .ensures) in
+    rw (c .before .before .before .if1 .left, sym h ∙ not-true _ (c .if2 .taken)) (holds-none _)
+
+k-of-requires : tie.Need-k-of-requires
+k-of-requires c κs = search needs
+
+set-end-requires : tie.Need-set-end-requires
+set-end-requires c κs = search needs
+
+slice-aggregate-count-marks : tie.Need-slice-aggregate-count-marks
+slice-aggregate-count-marks c =
+    let a = c .before .before .before .before .before .before .before .before .before .before .args in
+    sym (length-take-le (c .before .set-end .result) (a .lent .now) (omega arith))
+
+count-marks-requires : tie.Need-count-marks-requires
+count-marks-requires c κs = search needs
+
+answer-line-requires : tie.Need-answer-line-requires
+answer-line-requires c κs = search needs
+
+same-length : tie.Need-same-length
+same-length c = search needs
+
+returns-3 : tie.Need-returns-3
+unfolding head-text
+returns-3 c =
+    let n = c .before .before .before .before in
+    let s = n .before .before in
+    let k = s .before in
+    let e = k .before in
+    let u = e .before .before .before in
+    let a = u .before .before .before .before .args in
+    let h = e .before .has-head .ensures ∙ ap (λ (b : Bool). has-head b (a .r .number)) (e .before .before .is-list .ensures) in
+    let kept =
+    kept-is (k .k-of .result) (s .set-end .result) (n .count-marks .result) (a .lent .now) (n .count-marks .ensures) (omega (arith, s .set-end .ensures)) in
+    rw (u .if1 .left, sym h ∙ not-false _ (e .if2 .left), sym (k .k-of .ensures), sym kept) (c .before .before .answer-line .ensures)
+
+pub head-text-spec : {M : Type 1} → statement M
+head-text-spec =
+    tie.close
+    (tie.spec
+    returns
+    is-list-requires
+    has-head-requires
+    returns-2
+    k-of-requires
+    set-end-requires
+    slice-aggregate-count-marks
+    count-marks-requires
+    answer-line-requires
+    same-length
+    returns-3)
