@@ -37,7 +37,7 @@ pub fn put_row(out: &mut [u8], at: usize, row: &[u8]) -> usize
 }
 
 // Where a row ends that starts at a place: k bytes on, or at the end.
-fn row_end(len: usize, start: usize, k: usize) -> usize
+pub fn row_end(len: usize, start: usize, k: usize) -> usize
     requires { ⌜ start ≤ len ⌝ }
     ensures { λ r. ⌜ r ≡ start + min k (len - start) ⌝ }
 {

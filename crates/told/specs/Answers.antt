@@ -22,13 +22,13 @@ word number =
 -- a listing: its word, then rows, candidates and decisions
 unfoldable pub list-line : Report → ℕ → List ℕ
 list-line r k =
-    word (r .number) ++ filled (ascii ": # minimal safe inductive sets of # candidates, # decisions\n") (r .rows) k (r .decisions)
+    word (r .number) ++ filled (ascii ": minimal safe inductive sets found: # (candidates: #, decisions: #)\n") (r .rows) k (r .decisions)
 
 -- the head line of an answer: k is the number of candidates, and so many are kept
 unfoldable pub answer-line : Job → Report → ℕ → ℕ → List ℕ
 answer-line Check r k kept = filled (ascii "accepted: # state variables, # inputs and helpers, # candidate lemmas\n") (r .n) (r .m) (r .k)
-answer-line Largest r k kept = filled (ascii "largest inductive set: # of # candidates, # decisions\n") kept k (r .decisions)
-answer-line One r k kept = filled (ascii "minimal safe inductive set: # of # candidates, # decisions\n") kept k (r .decisions)
+answer-line Largest r k kept = filled (ascii "largest inductive set: # of # candidates (decisions: #)\n") kept k (r .decisions)
+answer-line One r k kept = filled (ascii "minimal safe inductive set: # of # candidates (decisions: #)\n") kept k (r .decisions)
 answer-line Listing r k kept = list-line r k
 
 -- before each row of a listing

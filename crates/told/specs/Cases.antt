@@ -21,19 +21,19 @@ case-check : answer-line Check (checked 12 120 27) 27 0 ≡ ascii "accepted: 12 
 unfolding checked answer-line filled decimal digits digit
 case-check = refl
 
-case-largest : answer-line Largest (report 0 0 17903 0) 27 16 ≡ ascii "largest inductive set: 16 of 27 candidates, 17903 decisions\n"
+case-largest : answer-line Largest (report 0 0 17903 0) 27 16 ≡ ascii "largest inductive set: 16 of 27 candidates (decisions: 17903)\n"
 unfolding report answer-line filled decimal digits digit
 case-largest = refl
 
-case-one : answer-line One (report 0 0 83680 0) 27 12 ≡ ascii "minimal safe inductive set: 12 of 27 candidates, 83680 decisions\n"
+case-one : answer-line One (report 0 0 83680 0) 27 12 ≡ ascii "minimal safe inductive set: 12 of 27 candidates (decisions: 83680)\n"
 unfolding report answer-line filled decimal digits digit
 case-one = refl
 
-case-list : answer-line Listing (report 0 0 3 2) 3 0 ≡ ascii "complete: 2 minimal safe inductive sets of 3 candidates, 3 decisions\n"
+case-list : answer-line Listing (report 0 0 3 2) 3 0 ≡ ascii "complete: minimal safe inductive sets found: 2 (candidates: 3, decisions: 3)\n"
 unfolding report answer-line list-line word filled decimal digits digit
 case-list = refl
 
-case-room : answer-line Listing (report 12 0 3 1) 3 0 ≡ ascii "room: 1 minimal safe inductive sets of 3 candidates, 3 decisions\n"
+case-room : answer-line Listing (report 12 0 3 1) 3 0 ≡ ascii "room: minimal safe inductive sets found: 1 (candidates: 3, decisions: 3)\n"
 unfolding report answer-line list-line word filled decimal digits digit
 case-room = refl
 

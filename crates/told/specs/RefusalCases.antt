@@ -125,12 +125,12 @@ unfolding report refusal-line head-text where-text reason-text filled decimal di
 case-lent = refl
 
 case-spent : refusal-line One [] (report 10 0 1000 0) 1000 0
-    ≡ ascii "refusal 10: the budget of 1000 decisions was used up; try a larger one, for instance 10000\n"
+    ≡ ascii "refusal 10: the budget was used up (decisions: 1000); try a larger one, for instance 10000\n"
 unfolding report refusal-line head-text where-text reason-text filled decimal digits digit spent-text larger kept-text
 case-spent = refl
 
 case-spent-listing : refusal-line Listing [] (report 10 0 1000 2) 1000 0
-    ≡ ascii "refusal 10: the budget of 1000 decisions was used up; try a larger one, for instance 10000; sets kept, the first of the list: 2\n"
+    ≡ ascii "refusal 10: the budget was used up (decisions: 1000); try a larger one, for instance 10000; sets kept, the first of the list: 2\n"
 unfolding report refusal-line head-text where-text reason-text filled decimal digits digit spent-text larger kept-text
 case-spent-listing = refl
 
@@ -142,16 +142,16 @@ case-larger-most : larger 429496730 ≡ 4294967295
 unfolding larger
 case-larger-most = refl
 
-case-no-larger : spent-text 4294967295 ≡ filled (ascii "the budget of # decisions was used up, and there is no larger one") 4294967295 0 0
+case-no-larger : spent-text 4294967295 ≡ filled (ascii "the budget was used up (decisions: #), and there is no larger one") 4294967295 0 0
 unfolding spent-text
 case-no-larger = refl
 
 case-none : refusal-line One [] (report 11 0 7 0) 1000 0
-    ≡ ascii "refusal 11: no subset of these candidates is safe and inductive, after 7 decisions. This speaks of these candidates only: it does not say that the loader is unsafe\n"
+    ≡ ascii "refusal 11: no subset of these candidates is safe and inductive (decisions: 7). This speaks of these candidates only: it does not say that the loader is unsafe\n"
 unfolding report refusal-line head-text where-text reason-text filled decimal digits digit
 case-none = refl
 
 case-room : refusal-line Listing [] (report 12 0 3 1) 1000 5
-    ≡ ascii "refusal 12: the next set does not fit the space of 5 bytes; try a larger space; sets kept, the first of the list: 1\n"
+    ≡ ascii "refusal 12: the next set does not fit the space (bytes: 5); try a larger space; sets kept, the first of the list: 1\n"
 unfolding report refusal-line head-text where-text reason-text filled decimal digits digit kept-text
 case-room = refl

@@ -38,8 +38,8 @@ larger budget = cond (eqb budget 0) 1000000 (min (10 * budget) 4294967295)
 unfoldable pub spent-text : ℕ → List ℕ
 spent-text budget =
     cond (ltb budget 4294967295)
-    (filled (ascii "the budget of # decisions was used up; try a larger one, for instance #") budget (larger budget) 0)
-    (filled (ascii "the budget of # decisions was used up, and there is no larger one") budget 0 0)
+    (filled (ascii "the budget was used up (decisions: #); try a larger one, for instance #") budget (larger budget) 0)
+    (filled (ascii "the budget was used up (decisions: #), and there is no larger one") budget 0 0)
 
 -- what a listing keeps, and the line's end
 unfoldable pub kept-text : Job → ℕ → List ℕ
@@ -54,10 +54,10 @@ reason-text job r budget space =
     cond (eqb (r .number) 9) (ascii "fewer bytes were lent than there are candidates\n")
     (cond (eqb (r .number) 10) (spent-text budget ++ kept-text job (r .rows))
     (cond (eqb (r .number) 11)
-    (filled (ascii "no subset of these candidates is safe and inductive, after # decisions. ") (r .decisions) 0 0
+    (filled (ascii "no subset of these candidates is safe and inductive (decisions: #). ") (r .decisions) 0 0
     ++ ascii "This speaks of these candidates only: it does not say that the loader is unsafe\n")
     (cond (eqb (r .number) 12)
-    (filled (ascii "the next set does not fit the space of # bytes; try a larger space") space 0 0 ++ kept-text job (r .rows))
+    (filled (ascii "the next set does not fit the space (bytes: #); try a larger space") space 0 0 ++ kept-text job (r .rows))
     (ascii "no refusal that this program knows\n"))))
 
 -- a refusal of a job, on a line: of a file, with a budget, and with so many bytes lent

@@ -39,7 +39,7 @@ fn list_line(r: Report, k: usize, out: &mut [u8]) -> usize
     put_filled(
         out,
         at,
-        b": # minimal safe inductive sets of # candidates, # decisions\n",
+        b": minimal safe inductive sets found: # (candidates: #, decisions: #)\n",
         r.rows as u64,
         k as u64,
         r.decisions as u64,
@@ -63,7 +63,7 @@ pub fn answer_line(job: Job, r: Report, k: usize, kept: usize, out: &mut [u8]) -
         Job::Largest => put_filled(
             out,
             0,
-            b"largest inductive set: # of # candidates, # decisions\n",
+            b"largest inductive set: # of # candidates (decisions: #)\n",
             kept as u64,
             k as u64,
             decisions,
@@ -71,7 +71,7 @@ pub fn answer_line(job: Job, r: Report, k: usize, kept: usize, out: &mut [u8]) -
         Job::One => put_filled(
             out,
             0,
-            b"minimal safe inductive set: # of # candidates, # decisions\n",
+            b"minimal safe inductive set: # of # candidates (decisions: #)\n",
             kept as u64,
             k as u64,
             decisions,

@@ -120,7 +120,7 @@ fn put_spent(out: &mut [u8], at: usize, budget: u32) -> usize
         return put_filled(
             out,
             at,
-            b"the budget of # decisions was used up; try a larger one, for instance #",
+            b"the budget was used up (decisions: #); try a larger one, for instance #",
             budget as u64,
             larger(budget),
             0,
@@ -129,7 +129,7 @@ fn put_spent(out: &mut [u8], at: usize, budget: u32) -> usize
     put_filled(
         out,
         at,
-        b"the budget of # decisions was used up, and there is no larger one",
+        b"the budget was used up (decisions: #), and there is no larger one",
         budget as u64,
         0,
         0,
@@ -155,7 +155,7 @@ fn put_reason(out: &mut [u8], at: usize, job: Job, r: Report, budget: u32, space
             let next = put_filled(
                 out,
                 at,
-                b"no subset of these candidates is safe and inductive, after # decisions. ",
+                b"no subset of these candidates is safe and inductive (decisions: #). ",
                 r.decisions as u64,
                 0,
                 0,
@@ -170,7 +170,7 @@ fn put_reason(out: &mut [u8], at: usize, job: Job, r: Report, budget: u32, space
             let next = put_filled(
                 out,
                 at,
-                b"the next set does not fit the space of # bytes; try a larger space",
+                b"the next set does not fit the space (bytes: #); try a larger space",
                 space as u64,
                 0,
                 0,

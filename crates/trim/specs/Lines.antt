@@ -3,7 +3,7 @@ use Prim.Native.Nat.{ℕ}
 use mathlib.Core.Bool.{Bool, true, false, _||_, cond}
 use mathlib.Core.List.{List, []}
 use lib.ListN.{length, take}
-use lib.Dec.{eqb}
+use lib.Dec.{eqb, leb}
 use Rattle.meaning.specs.Calls.{Report, check-call}
 use Rattle.told.specs.Answers.{answer-line, set-line, marks-line, marked}
 use Rattle.told.specs.Refusals.{refusal-line}
@@ -20,9 +20,9 @@ is-list Largest = false
 is-list One = false
 is-list Listing = true
 
--- an answer has a head line, and so has a listing that the budget or the space ended
+-- an answer has a head line, and so has a listing of an accepted file, refused or not: its word says which
 unfoldable pub has-head : Bool → ℕ → Bool
-has-head list number = eqb number 0 || cond list (eqb number 10 || eqb number 12) false
+has-head list number = eqb number 0 || cond list (leb 10 number) false
 
 -- the head line; where marks alone are wanted there is none
 unfoldable pub head-text : Bool → Job → List ℕ → Report → List ℕ → List ℕ

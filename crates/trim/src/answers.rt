@@ -51,7 +51,7 @@ fn tell_sets(order: Order, job: Job, file: &[u8], lent: &[u8], count: usize) {
     let mut start: usize = 0;
     let mut told: usize = 0;
     while told < count {
-        let end = lines::set_end(lent.len(), start, k);
+        let end = text::row_end(lent.len(), start, k);
         tell_set(order, job, file, told + 1, &lent[start..end]);
         start = end;
         told += 1;

@@ -1,9 +1,8 @@
 // The lines that are told of a job's outcome, each on a page.
 use problem::Report;
+use text::row_end;
 use told::Job;
-ghost use Prim.Native.Nat.{_+_, _≤_, _-_, min};
 ghost use mathlib.Core.Path.{_≡_};
-ghost use lib.ListN.{length};
 ghost use Rattle.problem.specs.Answers.{«report-of»};
 ghost use Rattle.text.specs.Page.{Holds};
 ghost use Rattle.trim.specs.Lines.{«k-of», «is-list», «has-head», «head-text», «marking-sets», «sets-told», «set-text», «error-text»};
@@ -27,7 +26,7 @@ fn is_list(job: Job) -> bool
     }
 }
 
-// An answer has a head line, and so has a listing that the budget or the space ended.
+// An answer has a head line, and so has a listing of an accepted file, refused or not.
 fn has_head(list: bool, number: u32) -> bool
     ensures { λ r. ⌜ r ≡ «has-head» list number ⌝ }
 {
@@ -37,18 +36,7 @@ fn has_head(list: bool, number: u32) -> bool
     if !list {
         return false;
     }
-    if number == 10 {
-        return true;
-    }
-    number == 12
-}
-
-// Where a set ends that starts at a place: k bytes on, or at the end.
-pub fn set_end(len: usize, start: usize, k: usize) -> usize
-    requires { ⌜ start ≤ len ⌝ }
-    ensures { λ r. ⌜ r ≡ start + min k (len - start) ⌝ }
-{
-    if k <= len - start { start + k } else { len }
+    10 <= number
 }
 
 // The head line.
@@ -69,7 +57,7 @@ pub fn head_text(
         return 0;
     }
     let k = k_of(file);
-    let end = set_end(lent.len(), 0, k);
+    let end = row_end(lent.len(), 0, k);
     told::answer_line(job, r, k, told::count_marks(&lent[..end]), page)
 }
 

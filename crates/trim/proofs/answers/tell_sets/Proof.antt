@@ -9,7 +9,7 @@ use Rattle.trim.proofs.answers.tell_sets.Reads as reads
 use Rattle.trim.proofs.answers.tell_sets.Lts as lts
 use Rattle.trim.proofs.answers.tell_set.Reads as tell-set-reads
 use Rattle.trim.proofs.lines.k_of.Reads as k-of-reads
-use Rattle.trim.proofs.lines.set_end.Reads as set-end-reads
+use Rattle.text.proofs.row_end.Reads as row-end-reads
 
 abbrev Inv-loop : tie.InvT-loop
 Inv-loop order job file lent count k start₀ told₀ start told = start ≤ length lent
@@ -23,8 +23,8 @@ k-of-requires c κs = search needs
 loop-holds : tie.Need-loop-holds Inv-loop μ-loop
 loop-holds c = omega arith
 
-set-end-requires : tie.Need-set-end-requires Inv-loop μ-loop
-set-end-requires c κs = omega arith
+row-end-requires : tie.Need-row-end-requires Inv-loop μ-loop
+row-end-requires c κs = omega arith
 
 add-tell-set : tie.Need-add-tell-set Inv-loop μ-loop
 add-tell-set c = omega arith
@@ -61,7 +61,7 @@ tell-sets-spec =
     μ-loop
     k-of-requires
     loop-holds
-    set-end-requires
+    row-end-requires
     add-tell-set
     sub-tell-set
     part-tell-set-start

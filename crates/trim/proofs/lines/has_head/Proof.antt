@@ -16,15 +16,7 @@ returns-2 c = rw (ne-eqb _ 0 (c .before .if1 .left), not-true (c .before .before
 
 returns-3 : tie.Need-returns-3
 unfolding has-head
-returns-3 c =
-    let a = c .before .before .before .args in
-    rw (ne-eqb _ 0 (c .before .before .if1 .left), not-false (a .list) (c .before .if2 .left), eq-eqb (a .number) 10 (c .if3 .taken))
-
-returns-4 : tie.Need-returns-4
-unfolding has-head
-returns-4 c =
-    let a = c .before .before .before .args in
-    rw (ne-eqb _ 0 (c .before .before .if1 .left), not-false (a .list) (c .before .if2 .left), ne-eqb (a .number) 10 (c .if3 .left))
+returns-3 c = rw (ne-eqb _ 0 (c .before .if1 .left), not-false (c .before .before .args .list) (c .if2 .left))
 
 pub has-head-spec : {M : Type 1} → statement M
-has-head-spec = tie.close (tie.spec returns returns-2 returns-3 returns-4)
+has-head-spec = tie.close (tie.spec returns returns-2 returns-3)

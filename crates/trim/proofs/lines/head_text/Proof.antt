@@ -21,7 +21,7 @@ use Rattle.told.proofs.count_marks.Reads as count-marks-reads
 use Rattle.trim.proofs.lines.has_head.Reads as has-head-reads
 use Rattle.trim.proofs.lines.is_list.Reads as is-list-reads
 use Rattle.trim.proofs.lines.k_of.Reads as k-of-reads
-use Rattle.trim.proofs.lines.set_end.Reads as set-end-reads
+use Rattle.text.proofs.row_end.Reads as row-end-reads
 
 returns : tie.Need-returns
 unfolding head-text
@@ -43,13 +43,13 @@ returns-2 c =
 k-of-requires : tie.Need-k-of-requires
 k-of-requires c κs = search needs
 
-set-end-requires : tie.Need-set-end-requires
-set-end-requires c κs = search needs
+row-end-requires : tie.Need-row-end-requires
+row-end-requires c κs = search needs
 
 slice-aggregate-count-marks : tie.Need-slice-aggregate-count-marks
 slice-aggregate-count-marks c =
     let a = c .before .before .before .before .before .before .before .before .before .before .args in
-    sym (length-take-le (c .before .set-end .result) (a .lent .now) (omega arith))
+    sym (length-take-le (c .before .row-end .result) (a .lent .now) (omega arith))
 
 count-marks-requires : tie.Need-count-marks-requires
 count-marks-requires c κs = search needs
@@ -71,7 +71,7 @@ returns-3 c =
     let a = u .before .before .before .before .args in
     let h = e .before .has-head .ensures ∙ ap (λ (b : Bool). has-head b (a .r .number)) (e .before .before .is-list .ensures) in
     let kept =
-    kept-is (k .k-of .result) (s .set-end .result) (n .count-marks .result) (a .lent .now) (n .count-marks .ensures) (omega (arith, s .set-end .ensures)) in
+    kept-is (k .k-of .result) (s .row-end .result) (n .count-marks .result) (a .lent .now) (n .count-marks .ensures) (omega (arith, s .row-end .ensures)) in
     rw (u .if1 .left, sym h ∙ not-false _ (e .if2 .left), sym (k .k-of .ensures), sym kept) (c .before .before .answer-line .ensures)
 
 pub head-text-spec : {M : Type 1} → statement M
@@ -83,7 +83,7 @@ head-text-spec =
     has-head-requires
     returns-2
     k-of-requires
-    set-end-requires
+    row-end-requires
     slice-aggregate-count-marks
     count-marks-requires
     answer-line-requires
