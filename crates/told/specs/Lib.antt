@@ -3,9 +3,6 @@ pub mod Answers
 pub mod AnswerLaws
 pub mod Lemmas
 pub mod LemmaLaws
-pub mod Places
-pub mod PlaceLaws
-pub mod Faults
 pub mod Refusals
 pub mod Cases
 pub mod RefusalCases

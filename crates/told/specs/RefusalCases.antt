@@ -13,8 +13,8 @@ use Rattle.text.specs.Numbers.{digit, digits, decimal}
 use Rattle.text.specs.Filled.{filled}
 use Rattle.told.specs.declared.answers.Job.the-variants.{Check, One, List as Listing}
 use Rattle.told.specs.Lemmas.{literal-text, literals-text, clause-text, lemma-text, lemma-line}
-use Rattle.told.specs.Places.{kind-there, past, reaches, unless-reached, walk, start-around, around}
-use Rattle.told.specs.Faults.{cut, literal-fault, number-fault, fault-of, fault-text}
+use Rattle.faults.specs.Places.{kind-there, past, reaches, unless-reached, walk, start-around, around}
+use Rattle.faults.specs.Faults.{cut, literal-fault, number-fault, fault-of, fault-text}
 use Rattle.told.specs.Refusals.{head-text, clause-place, where-text, larger, spent-text, kept-text, reason-text, refusal-line}
 
 -- the file of docs/FORMAT.md, 46 bytes: counts, an Init clause, two Tr clauses, a Bad clause, a lemma, the end

@@ -6,8 +6,8 @@ use lib.Dec.{eqb, ltb}
 use Rattle.meaning.specs.Calls.{Report}
 use Rattle.text.specs.Ascii.{ascii}
 use Rattle.text.specs.Filled.{filled}
-use Rattle.told.specs.Places.{around}
-use Rattle.told.specs.Faults.{fault-of, fault-text}
+use Rattle.faults.specs.Places.{around}
+use Rattle.faults.specs.Faults.{fault-of, fault-text}
 use Rattle.told.specs.declared.answers.Job.{Job}
 use Rattle.told.specs.declared.answers.Job.the-variants.{Check, Largest, One, List as Listing}
 

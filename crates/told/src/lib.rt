@@ -2,9 +2,7 @@
 // fit, one more than the page has. Every text is that of any bytes, any report and any number: a report need not belong to the file, and
 // bytes past the file's end read as 0.
 mod answers;
-mod faults;
 mod lemmas;
-mod places;
 mod refusals;
 
 pub use answers::Job;

@@ -1,8 +1,8 @@
 // A refusal in plain words: its number, its place, and what stands there.
 use crate::answers::Job;
-use crate::faults::fault_of;
-use crate::faults::put_fault;
-use crate::places::around;
+use faults::places::around;
+use faults::wrong::fault_of;
+use faults::wrong::put_fault;
 use problem::Report;
 use text::put_all;
 use text::put_filled;

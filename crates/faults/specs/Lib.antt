@@ -1,0 +1,4 @@
+-- What is wrong with a problem file, as definitions, and the laws of places.
+pub mod Places
+pub mod PlaceLaws
+pub mod Faults
