@@ -7,5 +7,6 @@ pub mod Places
 pub mod PlaceLaws
 pub mod Faults
 pub mod Refusals
+pub mod RefusedAt
 pub mod Cases
 pub mod RefusalCases
