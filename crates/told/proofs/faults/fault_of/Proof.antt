@@ -1,5 +1,4 @@
 -- `told::faults::fault_of` meets its contract: by the number. Assumes nothing.
-use mathlib.Core.Path.{ap}
 use borrow.Author.Tests.{ne-eqb}
 use Rattle.told.specs.Places.{kind-there}
 use Rattle.told.specs.Faults.{fault-of}
