@@ -2,3 +2,4 @@
 pub mod Places
 pub mod PlaceLaws
 pub mod Faults
+pub mod RefusedAt

@@ -8,7 +8,7 @@ use text::put_filled;
 ghost use mathlib.Core.Path.{_≡_};
 ghost use Prim.Native.Nat.{_+_, _<_};
 ghost use Rattle.meaning.specs.Clauses.{variable};
-ghost use Rattle.meaning.specs.File.{signed, «file-most», «clauses-most», «lemmas-most»};
+ghost use Rattle.meaning.specs.File.{signed};
 ghost use Rattle.text.specs.Page.{Appends};
 ghost use Rattle.faults.specs.Faults.{cut, «literal-fault», «number-fault», «fault-of», «fault-text»};
 

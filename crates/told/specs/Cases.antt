@@ -1,7 +1,7 @@
 -- What the program tells, worked out on examples.
 use Prim.Native.Nat.{ℕ}
 use mathlib.Core.Path.{_≡_, refl}
-use mathlib.Core.List.{List, [], _∷_, _++_}
+use mathlib.Core.List.{[], _∷_}
 use Rattle.meaning.specs.Calls.{Report}
 use Rattle.text.specs.Ascii.{ascii}
 use Rattle.text.specs.Numbers.{digit, digits, decimal}

@@ -1,12 +1,12 @@
 -- Laws of a lemma's line: a literal more, a record more.
-use Prim.Native.Nat.{ℕ, zero, suc, _+_, _-_, _/_, _≤_, _<_}
+use Prim.Native.Nat.{ℕ, zero, suc, _+_, _-_, _≤_, _<_}
 use native.Mathlib.Omega.{arith}
-use mathlib.Core.Path.{_≡_, refl, sym, ap, ap₂, subst, _∙_}
-use mathlib.Core.List.{List, [], _∷_, _++_}
+use mathlib.Core.Path.{_≡_, refl, sym, ap, subst, _∙_}
+use mathlib.Core.List.{List, [], _++_}
 use lib.ListN.{length, getD}
 use borrow.Author.Tests.{lt-ltb, le-ltb}
 use Rattle.meaning.specs.Clauses.{Clause}
-use Rattle.meaning.specs.File.{Reading, accepted, rejected, read, two-at, literal-at, literals}
+use Rattle.meaning.specs.File.{accepted, literal-at, literals}
 use Rattle.format.specs.Section.{next-record, clause-at, section, Inside, problem-at}
 use Rattle.format.specs.declared.Problem.{Problem}
 use Rattle.text.specs.Ascii.{ascii}

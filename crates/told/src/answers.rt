@@ -4,10 +4,8 @@ use text::put_all;
 use text::put_filled;
 use text::put_row;
 ghost use mathlib.Core.Path.{_≡_};
-ghost use mathlib.Core.List.{[], _∷_, _++_, map};
 ghost use Rattle.problem.specs.Answers.{«report-of»};
 ghost use Rattle.text.specs.Page.{Appends, Holds};
-ghost use Rattle.text.specs.Listing.{«mark-digit»};
 ghost use Rattle.told.specs.Answers.{«answer-line», «list-line», «set-line», «marks-line», marked, word};
 
 // Which job was asked.

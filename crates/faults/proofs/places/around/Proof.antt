@@ -1,7 +1,4 @@
 -- `faults::places::around` meets its contract: the kind where it starts, and its position. Assumes nothing.
-use Prim.Native.Nat.{ℕ, _+_}
-use mathlib.Core.Path.{ap}
-use Rattle.meaning.specs.File.{two-at}
 use Rattle.faults.specs.Places.{kind-there, around}
 use borrow.Author.Needs.{needs}
 use Rattle.faults.proofs.places.around.Statement.{statement}

@@ -1,8 +1,6 @@
 -- `faults::places::position_after` meets its contract: the same kind, or another. Assumes nothing.
 use native.Mathlib.Omega.{arith}
-use Prim.Native.Nat.{_+_, _≤_}
-use mathlib.Core.Path.{_≡_, sym, refl, _∙_}
-use mathlib.Core.Bool.{cond}
+use mathlib.Core.Path.{sym, _∙_}
 use borrow.Author.Tests.{eq-eqb, ne-eqb}
 use Rattle.faults.specs.Places.{kind-there}
 use borrow.Author.Needs.{needs}

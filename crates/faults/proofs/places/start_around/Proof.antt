@@ -1,12 +1,10 @@
 -- `faults::places::start_around` meets its contract: the walk from here on ends at the same record. Assumes nothing.
 use native.Mathlib.Omega.{arith}
-use Prim.Native.Nat.{ℕ, _+_, _-_, _≤_, _<_}
+use Prim.Native.Nat.{ℕ, _+_, _-_, _≤_}
 use mathlib.Core.Path.{_≡_, sym, refl, ap, _∙_}
 use lib.ListN.{length}
 use borrow.Author.Needs.{needs}
-use Rattle.meaning.specs.File.{two-at}
 use Rattle.format.specs.Section.{next-record}
-use Rattle.faults.specs.declared.places.Spot.{Spot}
 use Rattle.faults.specs.Places.{start-around, walk}
 use Rattle.faults.specs.PlaceLaws.{spot-after, walk-ended, walk-reached, walk-more, walk-out}
 use Rattle.faults.proofs.places.start_around.Statement.{statement}

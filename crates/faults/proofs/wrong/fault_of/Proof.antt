@@ -1,5 +1,4 @@
 -- `faults::wrong::fault_of` meets its contract: by the number. Assumes nothing.
-use mathlib.Core.Path.{ap}
 use borrow.Author.Tests.{ne-eqb}
 use Rattle.faults.specs.Places.{kind-there}
 use Rattle.faults.specs.Faults.{fault-of}

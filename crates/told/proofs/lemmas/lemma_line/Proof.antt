@@ -1,5 +1,5 @@
 -- `told::lemmas::lemma_line` meets its contract: its position, then the lemma of the problem that the file is read as. Assumes nothing.
-use mathlib.Core.Path.{_≡_, sym, ap, subst, _∙_}
+use mathlib.Core.Path.{sym, ap, subst, _∙_}
 use Rattle.meaning.specs.File.{Reading}
 use Rattle.problem.specs.Answers.{reading-of-answer, PlacedIf}
 use Rattle.text.specs.PageLaws.{from-start, appends-both, appends-is}

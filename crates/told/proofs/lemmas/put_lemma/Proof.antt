@@ -1,6 +1,6 @@
 -- `told::lemmas::put_lemma` meets its contract: the record at the position holds its clause. Assumes nothing.
-use Prim.Native.Nat.{ℕ, _+_, _*_, _/_, _≤_}
-use mathlib.Core.Path.{_≡_, sym, ap, subst, _∙_}
+use Prim.Native.Nat.{ℕ, _+_, _/_, _≤_}
+use mathlib.Core.Path.{ap, _∙_}
 use native.Mathlib.Omega.{arith}
 use lib.ListN.{length}
 use Rattle.meaning.specs.File.{two-at, literals}

@@ -1,9 +1,8 @@
 -- `told::lemmas::put_literals` meets its contract: the literals from here on are left to write. Assumes nothing.
-use Prim.Native.Nat.{ℕ, suc, _+_, _*_, _≤_, _<_, _-_}
-use mathlib.Core.Path.{_≡_, refl, sym, ap, subst, _∙_}
+use Prim.Native.Nat.{_+_, _*_, _≤_, _-_}
+use mathlib.Core.Path.{_≡_, refl, ap, _∙_}
 use native.Mathlib.Omega.{arith}
 use borrow.Author.Needs.{needs}
-use mathlib.Core.List.{List}
 use lib.ListN.{length}
 use Rattle.meaning.specs.File.{literals}
 use Rattle.text.specs.PageLaws.{Leaves, leaves-all, appends-is}

@@ -1,11 +1,11 @@
 -- `told::lemmas::record_on` meets its contract: what is left to walk ends at the same lemma. Assumes nothing.
-use Prim.Native.Nat.{ℕ, suc, _+_, _*_, _≤_, _<_, _-_}
+use Prim.Native.Nat.{ℕ, suc, _+_, _≤_, _-_}
 use mathlib.Core.Path.{_≡_, refl, sym, ap, subst, _∙_}
 use native.Mathlib.Omega.{arith}
-use mathlib.Core.List.{List, []}
+use mathlib.Core.List.{[]}
 use lib.ListN.{length, getD}
 use Rattle.meaning.specs.File.{two-at}
-use Rattle.format.specs.Section.{next-record, clause-at, section, Inside}
+use Rattle.format.specs.Section.{next-record, section, Inside}
 use Rattle.told.specs.LemmaLaws.{inside-more, section-more, section-first}
 use Rattle.told.proofs.lemmas.record_on.Statement.{statement}
 use Rattle.told.proofs.lemmas.record_on.Tie as tie
