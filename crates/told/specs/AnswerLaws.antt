@@ -7,8 +7,7 @@ use native.Mathlib.Numerals.{add-one}
 use lib.ListN.{length, drop, getD}
 use lib.Seq.{drop-cons, drop-length}
 use borrow.Author.Tests.{eq-eqb, ne-eqb}
-use Rattle.text.specs.Ascii.{ascii}
-use Rattle.told.specs.Answers.{marked, word}
+use Rattle.told.specs.Answers.{marked}
 
 module _ (marks : List ℕ) (i : ℕ) (h : i < length marks) where
   next : drop i marks ≡ getD marks i 0 ∷ drop (i + 1) marks
@@ -26,8 +25,3 @@ module _ (marks : List ℕ) (i : ℕ) (h : i < length marks) where
 pub none-left : (marks : List ℕ) (i : ℕ) → i ≡ length marks → marked (drop i marks) ≡ 0
 unfolding marked
 none-left marks i e = ap (λ (n : ℕ). marked (drop n marks)) e ∙ ap marked (drop-length marks)
-
--- any other number
-pub other-word : (number : ℕ) → (number ≡ 0 → ⊥) → (number ≡ 10 → ⊥) → (number ≡ 11 → ⊥) → (number ≡ 12 → ⊥) → word number ≡ ascii "refused"
-unfolding word
-other-word number a b c d = rw (ne-eqb number 0 a, ne-eqb number 10 b, ne-eqb number 11 c, ne-eqb number 12 d)

@@ -16,18 +16,18 @@ use Rattle.told.specs.declared.faults.Fault.the-variants.{TooLong, HeadC
 unfoldable pub cut : List ℕ → ℕ → Fault
 cut file place = cond (ltb (length file - place) 4) (HeadCut (length file - place)) (BodyCut (two-at file place) (length file - place - 4))
 
--- 6: literal 0; or a variable too large, in a Tr clause (kind 3) or in another
+-- 6: literal 0; or a variable too large: a Tr clause (kind 3) may name those up to 2n+m, and any other those up to n
 unfoldable pub literal-fault : List ℕ → ℕ → Fault
 literal-fault file place =
     cond (eqb (variable (literal-at file place)) 0) LiteralZero
-    (cond (eqb (kind-there file (around file place .at)) 3)
-    (NoVariable (variable (literal-at file place)) (two-at file 4 + two-at file 4 + two-at file 6))
+    (cond (eqb (around file place .kind) 3)
+    (NoVariable (variable (literal-at file place)) (two-at file 4) (two-at file 6) (two-at file 4 + two-at file 4 + two-at file 6))
     (NoState (variable (literal-at file place)) (two-at file 4)))
 
 -- 7: a lemma (kind 5) with 128 lemmas before it, or else a clause too many
 unfoldable pub number-fault : List ℕ → ℕ → Fault
 number-fault file place =
-    cond (eqb (kind-there file (around file place .at)) 5)
+    cond (eqb (around file place .kind) 5)
     (cond (eqb (around file place .position) lemmas-most) ManyLemmas ManyClauses)
     ManyClauses
 
@@ -57,8 +57,8 @@ fault-text (CountsOut n m) =
     filled (ascii "# state variables and # inputs and helpers, ") n m 0 ++ filled (ascii "but a file has 1 to # and 0 to #\n") n-most m-most 0
 fault-text LiteralZero = filled (ascii "a literal 0, which names no variable\n") 0 0 0
 fault-text (NoState v n) = filled (ascii "variable #, but the file has # state variables\n") v n 0
-fault-text (NoVariable v most) =
-    filled (ascii "variable #, but the file has # variables: twice its state variables, and its inputs and helpers\n") v most 0
+fault-text (NoVariable v n m most) =
+    filled (ascii "variable #, but the file has 2*#+#") v n m ++ filled (ascii " = # variables\n") most 0 0
 fault-text ManyClauses = filled (ascii "more than # clauses\n") clauses-most 0 0
 fault-text ManyLemmas = filled (ascii "more than # lemmas\n") lemmas-most 0 0
 fault-text (Behind left) = filled (ascii "bytes behind the end record: #\n") left 0 0

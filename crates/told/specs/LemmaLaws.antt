@@ -47,6 +47,11 @@ unfolding literals clause-text
 clause-some file at zero h = absurd (h refl)
 clause-some file at (suc count) h = refl
 
+-- where the record stands that is so many records behind another, and that it lies inside the file
+abbrev pub Stands : List ℕ → ℕ → ℕ → ℕ → Type 0
+Stands file start position r =
+    (clause-at file r ≡ getD (section file start (suc position)) position []) × (next-record file r ≤ length file)
+
 -- records one after another: the first, and then those that are left
 module _ (file : List ℕ) (at : ℕ) where
   pub inside-more : (left : ℕ) → 0 < left → Inside file at (suc left)

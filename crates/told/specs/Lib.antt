@@ -6,6 +6,7 @@ pub mod LemmaLaws
 pub mod Places
 pub mod PlaceLaws
 pub mod Faults
-pub mod FaultLaws
 pub mod Refusals
+pub mod RefusedAt
 pub mod Cases
+pub mod RefusalCases

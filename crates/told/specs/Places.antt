@@ -7,6 +7,7 @@ use lib.Dec.{eqb, ltb, leb}
 use Rattle.meaning.specs.File.{two-at}
 use Rattle.format.specs.Section.{next-record}
 use Rattle.told.specs.declared.places.Spot.{Spot}
+use Rattle.told.specs.declared.places.Found.{Found}
 
 -- the kind of the record at a place: its head is the two bytes of its length, and then those of its kind
 unfoldable pub kind-there : List ℕ → ℕ → ℕ
@@ -33,6 +34,10 @@ unfoldable pub walk : ℕ → List ℕ → ℕ → Spot → Spot
 walk zero file place s = s
 walk (suc most) file place s = unless-reached (reaches file place s) (walk most file place) file s
 
--- the record around a place, from the file's start on (a file has fewer records than it has bytes)
-unfoldable pub around : List ℕ → ℕ → Spot
-around file place = walk (length file) file place (record { at = 0; position = 0 })
+-- where the record around a place starts, walking from the file's start (a file has fewer records than it has bytes)
+unfoldable pub start-around : List ℕ → ℕ → Spot
+start-around file place = walk (length file) file place (record { at = 0; position = 0 })
+
+-- the record around a place: its kind, and its position among the records of that kind
+unfoldable pub around : List ℕ → ℕ → Found
+around file place = record { kind = kind-there file (start-around file place .at); position = start-around file place .position }

@@ -1,12 +1,12 @@
 -- A refusal in plain words: its number, its place, and what stands there.
 use Prim.Native.Nat.{ℕ, _*_, min}
 use mathlib.Core.Bool.{cond}
-use mathlib.Core.List.{List, [], _++_}
+use mathlib.Core.List.{List, _++_}
 use lib.Dec.{eqb, ltb}
 use Rattle.meaning.specs.Calls.{Report}
 use Rattle.text.specs.Ascii.{ascii}
 use Rattle.text.specs.Filled.{filled}
-use Rattle.told.specs.Places.{kind-there, around}
+use Rattle.told.specs.Places.{around}
 use Rattle.told.specs.Faults.{fault-of, fault-text}
 use Rattle.told.specs.declared.answers.Job.{Job}
 use Rattle.told.specs.declared.answers.Job.the-variants.{Check, Largest, One, List as Listing}
@@ -14,21 +14,21 @@ use Rattle.told.specs.declared.answers.Job.the-variants.{Check, Largest,
 -- its number, and its place where it speaks of the file: 1 to 8
 unfoldable pub head-text : ℕ → ℕ → List ℕ
 head-text number place =
-    cond (ltb number 9) (filled (ascii "refusal # at byte #: ") number place 0) (filled (ascii "refusal #: ") number 0 0)
+    cond (ltb number 9) (filled (ascii "refusal # at byte #") number place 0) (filled (ascii "refusal #") number 0 0)
 
 -- which clause: its kind, and its position among those of its kind
 unfoldable pub clause-place : ℕ → ℕ → List ℕ
 clause-place kind position =
-    cond (eqb kind 2) (filled (ascii "in the Init clause at position #: ") position 0 0)
-    (cond (eqb kind 3) (filled (ascii "in the Tr clause at position #: ") position 0 0)
-    (cond (eqb kind 4) (filled (ascii "in the Bad clause at position #: ") position 0 0)
-    (cond (eqb kind 5) (filled (ascii "in the lemma at position #: ") position 0 0)
-    (filled (ascii "in a record of kind #: ") kind 0 0))))
+    cond (eqb kind 2) (filled (ascii ", in the Init clause at position #: ") position 0 0)
+    (cond (eqb kind 3) (filled (ascii ", in the Tr clause at position #: ") position 0 0)
+    (cond (eqb kind 4) (filled (ascii ", in the Bad clause at position #: ") position 0 0)
+    (cond (eqb kind 5) (filled (ascii ", in the lemma at position #: ") position 0 0)
+    (filled (ascii ", in a record of kind #: ") kind 0 0))))
 
 -- for a literal, 6, the clause around it
 unfoldable pub where-text : List ℕ → ℕ → ℕ → List ℕ
 where-text file number place =
-    cond (eqb number 6) (clause-place (kind-there file (around file place .at)) (around file place .position)) []
+    cond (eqb number 6) (clause-place (around file place .kind) (around file place .position)) (ascii ": ")
 
 -- a larger budget to try: ten times as large, up to the largest
 unfoldable pub larger : ℕ → ℕ

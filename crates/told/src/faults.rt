@@ -22,7 +22,7 @@ pub enum Fault {
     CountsOut(usize, usize),
     LiteralZero,
     NoState(usize, usize),
-    NoVariable(usize, usize),
+    NoVariable(usize, usize, usize, usize),
     ManyClauses,
     ManyLemmas,
     Behind(usize),
@@ -61,8 +61,9 @@ fn literal_fault(file: &[u8], place: usize) -> Fault
     }
     let n = word_at(file, 4);
     let s = around(file, place);
-    if word_on(file, s.at, 2) == 3 {
-        return Fault::NoVariable(v, n + n + word_at(file, 6));
+    if s.kind == 3 {
+        let m = word_at(file, 6);
+        return Fault::NoVariable(v, n, m, n + n + m);
     }
     Fault::NoState(v, n)
 }
@@ -72,7 +73,7 @@ fn number_fault(file: &[u8], place: usize) -> Fault
     ensures { λ r. ⌜ r ≡ «number-fault» (now (file .entry)) place ⌝ }
 {
     let s = around(file, place);
-    if word_on(file, s.at, 2) != 5 {
+    if s.kind != 5 {
         return Fault::ManyClauses;
     }
     if s.position == Problem::LEMMAS_MOST {
@@ -177,14 +178,17 @@ pub fn put_fault(out: &mut [u8], at: usize, f: Fault) -> usize
             n as u64,
             0,
         ),
-        Fault::NoVariable(v, most) => put_filled(
-            out,
-            at,
-            b"variable #, but the file has # variables: twice its state variables, and its inputs and helpers\n",
-            v as u64,
-            most as u64,
-            0,
-        ),
+        Fault::NoVariable(v, n, m, most) => {
+            let next = put_filled(
+                out,
+                at,
+                b"variable #, but the file has 2*#+#",
+                v as u64,
+                n as u64,
+                m as u64,
+            );
+            put_filled(out, next, b" = # variables\n", most as u64, 0, 0)
+        }
         Fault::ManyClauses => put_filled(
             out,
             at,

@@ -5,15 +5,14 @@ use problem::Checked;
 use text::put;
 use text::put_all;
 use text::put_filled;
-ghost use mathlib.Core.Path.{_≡_};
-ghost use mathlib.Core.List.{[]};
-ghost use Prim.Native.Nat.{suc, _+_, _*_, _<_, _≤_};
-ghost use lib.ListN.{length, getD};
+ghost use Prim.Native.Nat.{suc, _+_, _*_, _≤_};
+ghost use lib.ListN.{length};
 ghost use Rattle.meaning.specs.File.{accepted, literals, read};
 ghost use Rattle.format.specs.Forms.{«literal-of»};
-ghost use Rattle.format.specs.Section.{«clause-at», section, «problem-at», Inside, Placed, «next-record»};
+ghost use Rattle.format.specs.Section.{«problem-at», Inside, Placed};
 ghost use Rattle.text.specs.Page.{Appends, Holds};
 ghost use Rattle.told.specs.Lemmas.{«literal-text», «literals-text», «clause-text», «lemma-text», «lemma-line»};
+ghost use Rattle.told.specs.LemmaLaws.{Stands};
 
 // A literal, with a space before it.
 fn put_literal(out: &mut [u8], at: usize, l: Literal) -> usize
@@ -55,7 +54,7 @@ fn put_clause(out: &mut [u8], at: usize, file: &[u8], from: usize, count: usize)
 // Where the record so many records on starts.
 fn record_on(file: &[u8], start: usize, position: usize) -> usize
     requires { ⌜ Inside (now file) start (suc position) ⌝ }
-    ensures { λ r. ⌜ («clause-at» (now (file .entry)) r ≡ getD (section (now (file .entry)) start (suc position)) position []) × («next-record» (now (file .entry)) r ≤ length (now (file .entry))) ⌝ }
+    ensures { λ r. ⌜ Stands (now (file .entry)) start position r ⌝ }
 {
     let mut at = start;
     let mut left = position;

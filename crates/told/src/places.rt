@@ -5,11 +5,17 @@ ghost use Prim.Native.Nat.{_+_, _-_, _<_, _≤_};
 ghost use lib.ListN.{length};
 ghost use lib.Dec.{eqb};
 ghost use Rattle.meaning.specs.File.{«two-at»};
-ghost use Rattle.told.specs.Places.{around, «kind-there»};
+ghost use Rattle.told.specs.Places.{around, «start-around», «kind-there»};
 
-// A record: where it starts, and its position among the records of its kind.
+// Where a record starts, and its position among the records of its kind.
 pub struct Spot {
     pub at: usize,
+    pub position: usize,
+}
+
+// A record's kind, and its position among the records of that kind.
+pub struct Found {
+    pub kind: usize,
     pub position: usize,
 }
 
@@ -66,9 +72,9 @@ fn position_after(file: &[u8], at: usize, next: usize, position: usize) -> usize
     0
 }
 
-// The record around a place. A file has fewer records than it has bytes.
-pub fn around(file: &[u8], place: usize) -> Spot
-    ensures { λ r. ⌜ r ≡ around (now (file .entry)) place ⌝ }
+// Where the record around a place starts. A file has fewer records than it has bytes.
+fn start_around(file: &[u8], place: usize) -> Spot
+    ensures { λ r. ⌜ r ≡ «start-around» (now (file .entry)) place ⌝ }
 {
     let mut at: usize = 0;
     let mut position: usize = 0;
@@ -86,4 +92,15 @@ pub fn around(file: &[u8], place: usize) -> Spot
         left -= 1;
     }
     Spot { at, position }
+}
+
+// The record around a place.
+pub fn around(file: &[u8], place: usize) -> Found
+    ensures { λ r. ⌜ r ≡ around (now (file .entry)) place ⌝ }
+{
+    let s = start_around(file, place);
+    Found {
+        kind: word_on(file, s.at, 2),
+        position: s.position,
+    }
 }

@@ -3,7 +3,6 @@ use crate::answers::Job;
 use crate::faults::fault_of;
 use crate::faults::put_fault;
 use crate::places::around;
-use crate::places::word_on;
 use problem::Report;
 use text::put_all;
 use text::put_filled;
@@ -20,13 +19,13 @@ fn put_head(out: &mut [u8], number: u32, place: usize) -> usize
         return put_filled(
             out,
             0,
-            b"refusal # at byte #: ",
+            b"refusal # at byte #",
             number as u64,
             place as u64,
             0,
         );
     }
-    put_filled(out, 0, b"refusal #: ", number as u64, 0, 0)
+    put_filled(out, 0, b"refusal #", number as u64, 0, 0)
 }
 
 // Which clause: its kind, and its position among those of its kind.
@@ -37,7 +36,7 @@ fn put_clause_place(out: &mut [u8], at: usize, kind: usize, position: usize) -> 
         2 => put_filled(
             out,
             at,
-            b"in the Init clause at position #: ",
+            b", in the Init clause at position #: ",
             position as u64,
             0,
             0,
@@ -45,7 +44,7 @@ fn put_clause_place(out: &mut [u8], at: usize, kind: usize, position: usize) -> 
         3 => put_filled(
             out,
             at,
-            b"in the Tr clause at position #: ",
+            b", in the Tr clause at position #: ",
             position as u64,
             0,
             0,
@@ -53,7 +52,7 @@ fn put_clause_place(out: &mut [u8], at: usize, kind: usize, position: usize) -> 
         4 => put_filled(
             out,
             at,
-            b"in the Bad clause at position #: ",
+            b", in the Bad clause at position #: ",
             position as u64,
             0,
             0,
@@ -61,12 +60,12 @@ fn put_clause_place(out: &mut [u8], at: usize, kind: usize, position: usize) -> 
         5 => put_filled(
             out,
             at,
-            b"in the lemma at position #: ",
+            b", in the lemma at position #: ",
             position as u64,
             0,
             0,
         ),
-        _ => put_filled(out, at, b"in a record of kind #: ", kind as u64, 0, 0),
+        _ => put_filled(out, at, b", in a record of kind #: ", kind as u64, 0, 0),
     }
 }
 
@@ -75,10 +74,10 @@ fn put_where(out: &mut [u8], at: usize, file: &[u8], number: u32, place: usize) 
     ensures { λ r. ⌜ Appends («where-text» (now (file .entry)) number place) (now (out .entry)) at (now (out .exit)) r ⌝ }
 {
     if number != 6 {
-        return at;
+        return put_all(out, at, b": ");
     }
     let s = around(file, place);
-    put_clause_place(out, at, word_on(file, s.at, 2), s.position)
+    put_clause_place(out, at, s.kind, s.position)
 }
 
 // A larger budget to try: ten times as large, up to the largest.

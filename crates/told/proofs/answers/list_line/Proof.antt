@@ -7,7 +7,9 @@ use Rattle.told.proofs.answers.list_line.Tie as tie
 
 returns : tie.Need-returns
 unfolding list-line
-returns c = from-start (appends-both (c .before .before .before .before .before .before .before .put-word .ensures) (c .before .before .put-filled .ensures))
+returns c =
+    from-start
+    (appends-both (c .before .before .before .before .before .before .before .put-word .ensures) (c .before .before .put-filled .ensures))
 
 pub list-line-spec : {M : Type 1} → statement M
 list-line-spec =

@@ -1,50 +1,59 @@
 -- `told::faults::fault_of` meets its contract: by the number. Assumes nothing.
-use Prim.Native.Nat.{ℕ}
-use mathlib.Core.Path.{_≡_, sym, ap, ap₂, _∙_}
+use mathlib.Core.Path.{ap}
+use borrow.Author.Tests.{ne-eqb}
 use Rattle.told.specs.Places.{kind-there}
 use Rattle.told.specs.Faults.{fault-of}
-use Rattle.told.specs.FaultLaws.{other-fault}
-use Rattle.told.specs.declared.faults.Fault.the-variants.{KindOut, LengthOut, CountsOut, Behind}
 use borrow.Author.Needs.{needs}
 use Rattle.told.proofs.faults.fault_of.Statement.{statement}
 use Rattle.told.proofs.faults.fault_of.Tie as tie
 
 returns : tie.Need-returns
 unfolding fault-of
-returns c = sym (ap (λ (n : ℕ). fault-of (c .before .before .args .file .now) n (c .before .before .args .place)) (c .match .keys1))
+returns c = rw (c .match .keys1)
 
 returns-2 : tie.Need-returns-2
 unfolding fault-of
-returns-2 c = c .cut .ensures ∙ sym (ap (λ (n : ℕ). fault-of (c .before .before .before .args .file .now) n (c .before .before .before .args .place)) (c .before .match .keys2))
+returns-2 c = rw (c .before .match .keys2) (c .cut .ensures)
 
 returns-3 : tie.Need-returns-3
 unfolding fault-of kind-there
-returns-3 c = ap KindOut (c .word-on .ensures .0) ∙ sym (ap (λ (n : ℕ). fault-of (c .before .before .before .args .file .now) n (c .before .before .before .args .place)) (c .before .match .keys3))
+returns-3 c = rw (c .before .match .keys3, ← c .word-on .ensures .0)
 
 returns-4 : tie.Need-returns-4
 unfolding fault-of kind-there
-returns-4 c = ap₂ LengthOut (c .before .word-at .ensures .0) (c .word-on2 .ensures .0) ∙ sym (ap (λ (n : ℕ). fault-of (c .before .before .before .before .args .file .now) n (c .before .before .before .before .args .place)) (c .before .before .match .keys4))
+returns-4 c = rw (c .before .before .match .keys4, ← c .before .word-at .ensures .0, ← c .word-on2 .ensures .0)
 
 returns-5 : tie.Need-returns-5
 unfolding fault-of
-returns-5 c = ap₂ CountsOut (c .before .word-on3 .ensures .0) (c .word-on4 .ensures .0) ∙ sym (ap (λ (n : ℕ). fault-of (c .before .before .before .before .args .file .now) n (c .before .before .before .before .args .place)) (c .before .before .match .keys5))
+returns-5 c = rw (c .before .before .match .keys5, ← c .before .word-on3 .ensures .0, ← c .word-on4 .ensures .0)
 
 returns-6 : tie.Need-returns-6
 unfolding fault-of
-returns-6 c = c .literal-fault .ensures ∙ sym (ap (λ (n : ℕ). fault-of (c .before .before .before .args .file .now) n (c .before .before .before .args .place)) (c .before .match .keys6))
+returns-6 c = rw (c .before .match .keys6) (c .literal-fault .ensures)
 
 returns-7 : tie.Need-returns-7
 unfolding fault-of
-returns-7 c = c .number-fault .ensures ∙ sym (ap (λ (n : ℕ). fault-of (c .before .before .before .args .file .now) n (c .before .before .before .args .place)) (c .before .match .keys7))
+returns-7 c = rw (c .before .match .keys7) (c .number-fault .ensures)
 
 returns-8 : tie.Need-returns-8
 unfolding fault-of
-returns-8 c = ap Behind (c .left-from .ensures) ∙ sym (ap (λ (n : ℕ). fault-of (c .before .before .before .args .file .now) n (c .before .before .before .args .place)) (c .before .match .keys8))
+returns-8 c = rw (c .before .match .keys8, ← c .left-from .ensures)
 
 returns-9 : tie.Need-returns-9
+unfolding fault-of
 returns-9 c =
+    let n = c .before .before .args .number in
     let r = c .match .rest in
-    other-fault _ _ _ (r .0 .0 .0 .0 .0 .0 .0 .1) (r .0 .0 .0 .0 .0 .0 .1) (r .0 .0 .0 .0 .0 .1) (r .0 .0 .0 .0 .1) (r .0 .0 .0 .1) (r .0 .0 .1) (r .0 .1) (r .1)
+    rw (
+      ne-eqb n 1 (r .0 .0 .0 .0 .0 .0 .0 .1),
+      ne-eqb n 2 (r .0 .0 .0 .0 .0 .0 .1),
+      ne-eqb n 3 (r .0 .0 .0 .0 .0 .1),
+      ne-eqb n 4 (r .0 .0 .0 .0 .1),
+      ne-eqb n 5 (r .0 .0 .0 .1),
+      ne-eqb n 6 (r .0 .0 .1),
+      ne-eqb n 7 (r .0 .1),
+      ne-eqb n 8 (r .1),
+    )
 
 pub fault-of-spec : {M : Type 1} → statement M
 fault-of-spec =

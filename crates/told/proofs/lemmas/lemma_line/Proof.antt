@@ -14,22 +14,22 @@ put-lemma-requires c κs = subst (PlacedIf _) (c .before .before .read .given .1
 returns : tie.Need-returns
 unfolding lemma-line
 returns c =
-    let file = c .before .before .before .before .before .before .before .before .before .before .before .before .before .before .before .args .file .now in
+    let read = c .before .before .before .before .before .before .before in
+    let a = read .before .before .before .before .before .before .before .before .args in
+    let e = sym (ap (reading-of-answer (a .file .now)) (c .before .before .before .before .before .read .given .1)) ∙ read .read-problem .ensures .0 in
     from-start
-    (appends-both (c .before .before .before .before .before .before .before .before .before .before .put-filled .ensures)
-    (appends-is
-    (ap (λ (r : Reading). lemma-text r (c .before .before .before .before .before .before .before .before .before .before .before .before .before .before .before .args .position)) (sym (ap (reading-of-answer file) (c .before .before .before .before .before .read .given .1)) ∙ c .before .before .before .before .before .before .before .read-problem .ensures .0))
-    (c .before .before .put-lemma .ensures)))
+    (appends-both (read .before .before .before .put-filled .ensures)
+    (appends-is (ap (λ (r : Reading). lemma-text r (a .position)) e) (c .before .before .put-lemma .ensures)))
 
 returns-2 : tie.Need-returns-2
 unfolding lemma-line lemma-text
 returns-2 c =
-    let file = c .before .before .before .before .before .before .before .before .before .before .before .before .before .before .before .args .file .now in
+    let read = c .before .before .before .before .before .before .before in
+    let a = read .before .before .before .before .before .before .before .before .args in
+    let e = sym (ap (reading-of-answer (a .file .now)) (c .before .before .before .before .before .enum-told .given .1)) ∙ read .read-problem .ensures .0 in
     from-start
-    (appends-both (c .before .before .before .before .before .before .before .before .before .before .put-filled .ensures)
-    (appends-is
-    (ap (λ (r : Reading). lemma-text r (c .before .before .before .before .before .before .before .before .before .before .before .before .before .before .before .args .position)) (sym (ap (reading-of-answer file) (c .before .before .before .before .before .enum-told .given .1)) ∙ c .before .before .before .before .before .before .before .read-problem .ensures .0))
-    (c .before .before .put-all .ensures)))
+    (appends-both (read .before .before .before .put-filled .ensures)
+    (appends-is (ap (λ (r : Reading). lemma-text r (a .position)) e) (c .before .before .put-all .ensures)))
 
 pub lemma-line-spec : {M : Type 1} → statement M
 lemma-line-spec =

@@ -41,9 +41,10 @@ loop-less c = omega arith
 
 loop-again : tie.Need-loop-again Inv-loop μ-loop
 loop-again c =
-    let l = c .before .before .before .before .before .before .loop in (
+    let l = c .before .before .before .before .before .before .loop in
+    let wrote = appends-is (ap literal-text (c .before .before .before .literal-at .ensures)) (c .before .before .put-literal .ensures) in (
       omega arith,
-      literal-more _ (l .here) (l .left) (c .before .before .before .before .before .loop-test .taken) (l .inv .1) (appends-is (ap literal-text (c .before .before .before .literal-at .ensures)) (c .before .before .put-literal .ensures)),
+      literal-more _ (l .here) (l .left) (c .before .before .before .before .before .loop-test .taken) (l .inv .1) wrote,
       c .before .before .put-literal .kept .0 ∙ l .inv .2,
     )
 

@@ -25,7 +25,9 @@ fits : (c : tie.In-loop Inv-loop μ-loop)
     → c .before .loop .at + 4 + two-at (c .before .before .before .args .file .now) (c .before .loop .at)
     ≤ length (c .before .before .before .args .file .now)
 unfolding next-record
-fits c = inside-more (c .before .before .before .args .file .now) (c .before .loop .at) (c .before .loop .left) (c .loop-test .taken) (c .before .loop .inv .0) .0
+fits c =
+    let l = c .before .loop in
+    inside-more (c .before .before .before .args .file .now) (l .at) (l .left) (c .loop-test .taken) (l .inv .0) .0
 
 add-at : tie.Need-add-at Inv-loop μ-loop
 add-at c = omega (arith, fits c)

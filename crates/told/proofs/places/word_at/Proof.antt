@@ -10,7 +10,11 @@ returns : tie.Need-returns
 returns c = (two-past (c .before .before .args .file .now) (c .before .before .args .at) (c .if1 .taken), omega arith)
 
 returns-2 : tie.Need-returns-2
-returns-2 c = (c .wide .ensures ∙ two-last (c .before .before .before .before .before .args .file .now) (c .before .before .before .before .before .args .at) (c .before .before .if2 .taken), omega (arith, c .before .shared-slice-known2 .given (c .before .before .before .before .before .args .at)))
+returns-2 c =
+    let a = c .before .before .before .before .before .args in (
+      c .wide .ensures ∙ two-last (a .file .now) (a .at) (c .before .before .if2 .taken),
+      omega (arith, c .before .shared-slice-known2 .given (a .at)),
+    )
 
 pub word-at-spec : {M : Type 1} → statement M
 word-at-spec =

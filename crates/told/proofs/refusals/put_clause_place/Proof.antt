@@ -24,9 +24,9 @@ returns-4 c = rw (c .before .before .before .before .before .match .keys4) (c .b
 returns-5 : tie.Need-returns-5
 unfolding clause-place
 returns-5 c =
-    let kind = c .before .before .before .before .before .before .before .args .kind in
+    let k = c .before .before .before .before .before .before .before .args .kind in
     let r = c .before .before .before .before .before .match .rest in
-    rw (ne-eqb kind 2 (r .0 .0 .0 .1), ne-eqb kind 3 (r .0 .0 .1), ne-eqb kind 4 (r .0 .1), ne-eqb kind 5 (r .1)) (c .before .before .put-filled5 .ensures)
+    rw (ne-eqb k 2 (r .0 .0 .0 .1), ne-eqb k 3 (r .0 .0 .1), ne-eqb k 4 (r .0 .1), ne-eqb k 5 (r .1)) (c .before .before .put-filled5 .ensures)
 
 pub put-clause-place-spec : {M : Type 1} → statement M
 put-clause-place-spec =

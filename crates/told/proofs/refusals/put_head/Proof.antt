@@ -7,11 +7,15 @@ use Rattle.told.proofs.refusals.put_head.Tie as tie
 
 returns : tie.Need-returns
 unfolding head-text
-returns c = rw (lt-ltb (c .before .before .before .before .before .before .before .args .number) 9 (c .before .before .before .before .before .if1 .taken)) (c .before .before .put-filled .ensures)
+returns c =
+    rw (lt-ltb (c .before .before .before .before .before .before .before .args .number) 9 (c .before .before .before .before .before .if1 .taken))
+    (c .before .before .put-filled .ensures)
 
 returns-2 : tie.Need-returns-2
 unfolding head-text
-returns-2 c = rw (le-ltb (c .before .before .before .before .before .before .before .args .number) 9 (c .before .before .before .before .before .if1 .left)) (c .before .before .put-filled2 .ensures)
+returns-2 c =
+    rw (le-ltb (c .before .before .before .before .before .before .before .args .number) 9 (c .before .before .before .before .before .if1 .left))
+    (c .before .before .put-filled2 .ensures)
 
 pub put-head-spec : {M : Type 1} → statement M
 put-head-spec =

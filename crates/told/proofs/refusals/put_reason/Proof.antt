@@ -12,22 +12,28 @@ returns c = rw (c .before .before .before .before .before .match .keys1) (c .bef
 
 returns-2 : tie.Need-returns-2
 unfolding reason-text
-returns-2 c = rw (c .before .before .before .before .before .before .before .before .match .keys2) (appends-both (c .before .before .before .before .before .before .put-spent .ensures) (c .before .before .put-kept .ensures))
+returns-2 c =
+    rw (c .before .before .before .before .before .before .before .before .match .keys2)
+    (appends-both (c .before .before .before .before .before .before .put-spent .ensures) (c .before .before .put-kept .ensures))
 
 returns-3 : tie.Need-returns-3
 unfolding reason-text
-returns-3 c = rw (c .before .before .before .before .before .before .before .before .before .before .match .keys3) (appends-both (c .before .before .before .before .before .before .before .put-filled .ensures) (c .before .before .put-all2 .ensures))
+returns-3 c =
+    rw (c .before .before .before .before .before .before .before .before .before .before .match .keys3)
+    (appends-both (c .before .before .before .before .before .before .before .put-filled .ensures) (c .before .before .put-all2 .ensures))
 
 returns-4 : tie.Need-returns-4
 unfolding reason-text
-returns-4 c = rw (c .before .before .before .before .before .before .before .before .before .match .keys4) (appends-both (c .before .before .before .before .before .before .put-filled2 .ensures) (c .before .before .put-kept2 .ensures))
+returns-4 c =
+    rw (c .before .before .before .before .before .before .before .before .before .match .keys4)
+    (appends-both (c .before .before .before .before .before .before .put-filled2 .ensures) (c .before .before .put-kept2 .ensures))
 
 returns-5 : tie.Need-returns-5
 unfolding reason-text
 returns-5 c =
-    let number = c .before .before .before .before .before .before .before .args .r .number in
+    let n = c .before .before .before .before .before .before .before .args .r .number in
     let r = c .before .before .before .before .before .match .rest in
-    rw (ne-eqb number 9 (r .0 .0 .0 .1), ne-eqb number 10 (r .0 .0 .1), ne-eqb number 11 (r .0 .1), ne-eqb number 12 (r .1)) (c .before .before .put-all3 .ensures)
+    rw (ne-eqb n 9 (r .0 .0 .0 .1), ne-eqb n 10 (r .0 .0 .1), ne-eqb n 11 (r .0 .1), ne-eqb n 12 (r .1)) (c .before .before .put-all3 .ensures)
 
 pub put-reason-spec : {M : Type 1} → statement M
 put-reason-spec =
