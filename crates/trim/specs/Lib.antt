@@ -2,3 +2,4 @@
 pub mod Doing
 pub mod Lines
 pub mod LineLaws
+pub mod Cases

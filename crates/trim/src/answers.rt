@@ -1,5 +1,5 @@
-// An order's job on a file, and what is told of it, line by line. Answers go to standard output; a refusal to standard error, after the sets
-// that a listing found before it.
+// An order's job on a file, and what is told of it, line by line. Answers go to standard output, up to a line that cannot be written; a
+// refusal to standard error, after the sets that a listing found before it.
 use crate::doing;
 use crate::lines;
 use crate::page;
@@ -9,40 +9,52 @@ use problem::Report;
 use told::Job;
 use words::Order;
 
-fn tell_head(order: Order, job: Job, file: &[u8], r: Report, lent: &[u8]) {
+fn tell_head(order: Order, job: Job, file: &[u8], r: Report, lent: &[u8]) -> bool {
     let mut page = page::line();
     let end = lines::head_text(order.marks, job, file, r, lent, &mut page);
-    page::show(STDOUT_FILENO, &page, end);
+    page::show(STDOUT_FILENO, &page, end)
 }
 
-fn tell_lemma(file: &[u8], position: usize) {
+fn tell_lemma(file: &[u8], position: usize) -> bool {
     let mut page = page::line();
     let end = told::lemma_line(file, position, &mut page);
-    page::show(STDOUT_FILENO, &page, end);
+    page::show(STDOUT_FILENO, &page, end)
+}
+
+// The lemma at a position, if it is marked.
+fn tell_marked(file: &[u8], mark: u8, position: usize) -> bool {
+    if mark != 1 {
+        return true;
+    }
+    tell_lemma(file, position)
 }
 
 // The lemmas that are marked, by position.
-fn tell_lemmas(file: &[u8], marks: &[u8]) {
+fn tell_lemmas(file: &[u8], marks: &[u8]) -> bool {
     let mut i: usize = 0;
     while i < marks.len() {
-        if marks[i] == 1 {
-            tell_lemma(file, i);
+        if !tell_marked(file, marks[i], i) {
+            return false;
         }
         i += 1;
     }
+    true
 }
 
-fn tell_set_line(order: Order, job: Job, number: usize, set: &[u8]) {
+fn tell_set_line(order: Order, job: Job, number: usize, set: &[u8]) -> bool {
     let mut page = page::line();
     let end = lines::set_text(order.marks, job, number, set, &mut page);
-    page::show(STDOUT_FILENO, &page, end);
+    page::show(STDOUT_FILENO, &page, end)
 }
 
-fn tell_set(order: Order, job: Job, file: &[u8], number: usize, set: &[u8]) {
-    tell_set_line(order, job, number, set);
-    if !order.marks {
-        tell_lemmas(file, set);
+fn tell_set(order: Order, job: Job, file: &[u8], number: usize, set: &[u8]) -> bool {
+    if !tell_set_line(order, job, number, set) {
+        return false;
     }
+    if order.marks {
+        return true;
+    }
+    tell_lemmas(file, set)
 }
 
 // So many sets of k marks, one behind the other.
@@ -52,7 +64,9 @@ fn tell_sets(order: Order, job: Job, file: &[u8], lent: &[u8], count: usize) {
     let mut told: usize = 0;
     while told < count {
         let end = text::row_end(lent.len(), start, k);
-        tell_set(order, job, file, told + 1, &lent[start..end]);
+        if !tell_set(order, job, file, told + 1, &lent[start..end]) {
+            return;
+        }
         start = end;
         told += 1;
     }
@@ -67,8 +81,9 @@ fn tell_error(order: Order, job: Job, file: &[u8], r: Report) {
 // The job on lent bytes, and what came of it.
 fn answer_on(order: Order, job: Job, file: &[u8], lent: &mut [u8]) {
     let r = doing::done(job, file, order.budget, lent);
-    tell_head(order, job, file, r, lent);
-    tell_sets(order, job, file, lent, lines::sets_told(job, r));
+    if tell_head(order, job, file, r, lent) {
+        tell_sets(order, job, file, lent, lines::sets_told(job, r));
+    }
     tell_error(order, job, file, r);
 }
 

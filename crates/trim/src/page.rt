@@ -10,14 +10,19 @@ pub fn line() -> [u8; 1024]
     [0; 1024]
 }
 
-// The first bytes of a page. Every line fits the page of `line`.
-pub fn show(fd: i32, page: &[u8], n: usize) {
-    if n <= page.len() {
-        io::write_all(fd, &page[..n]);
+// The first bytes of a page; every line fits the page of `line`. Where they cannot be written that is told, and the answer is false.
+pub fn show(fd: i32, page: &[u8], n: usize) -> bool {
+    if page.len() < n {
+        return false;
     }
+    if io::write_all(fd, &page[..n]) {
+        return true;
+    }
+    os::fail(b"trim: cannot write");
+    false
 }
 
-// The same, and the system's own words for what failed.
+// The first bytes of a page, to standard error, and the system's own words for what failed.
 pub fn fail(page: &[u8], n: usize) {
     if n <= page.len() {
         os::fail(&page[..n]);

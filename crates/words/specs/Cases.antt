@@ -13,7 +13,7 @@ use Rattle.words.specs.declared.order.Job.the-variants.{Awaited, Check, 
 use Rattle.words.specs.declared.order.Fault.{Fault}
 use Rattle.words.specs.declared.order.Fault.the-variants.{Nothing, Unknown, Superfluous, NotANumber, TooLarge, NoFile, NoJob}
 use Rattle.words.specs.declared.order.Order.{Order}
-use Rattle.words.specs.Orders.{job-of, take-job, take-option, take-named, take-plain, take-word, lacking, finished, taken, order-of}
+use Rattle.words.specs.Orders.{job-of, take-job, take-option, take-named, take-plain, take-word, lacking, finished, taken, order-of, begun, is-file}
 
 -- a command line and the order that it gives: job, words named, marks, budget, space, fault
 record Case : Type 0 where
@@ -68,3 +68,15 @@ numbers : (number-of (ascii "99") 99 ∷ number-of (ascii "0099") 99 ∷ number-
     ≡ (Value 99 ∷ Value 99 ∷ Over ∷ Not ∷ Not ∷ [])
 unfolding is-digit all-digits is-number value-after value up-to number-of
 numbers = refl
+
+-- which word is the file's name: none is the job's, and `--marks` is none
+named : (is-file begun (ascii "list")
+    ∷ is-file (taken begun (ascii "list" ∷ [])) (ascii "--marks")
+    ∷ is-file (taken begun (ascii "list" ∷ ascii "--marks" ∷ [])) (ascii "-")
+    ∷ is-file (taken begun (ascii "list" ∷ F ∷ [])) (ascii "12")
+    ∷ is-file (taken begun (ascii "frob" ∷ [])) F
+    ∷ [])
+    ≡ (false ∷ false ∷ true ∷ false ∷ false ∷ [])
+unfolding is-file taken take-word take-job take-option take-named take-plain job-of
+    same is-option is-digit all-digits is-number value-after value up-to number-of
+named = refl

@@ -2,6 +2,7 @@
 mod compare;
 mod number;
 mod order;
+mod taking;
 mod texts;
 
 pub use compare::same;
@@ -12,9 +13,9 @@ pub use order::Job;
 pub use order::Order;
 pub use order::begin;
 pub use order::faulty;
-pub use order::finish;
-pub use order::is_file;
-pub use order::take;
+pub use taking::finish;
+pub use taking::is_file;
+pub use taking::take;
 pub use texts::fault_line;
 pub use texts::help_text;
 pub use texts::not_opened;

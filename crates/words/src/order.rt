@@ -1,13 +1,8 @@
-// The order that a command line gives, taken word by word.
-use crate::compare::is_option;
-use crate::compare::same;
+// The order that a command line gives, and what each word may add to it.
 use crate::number::Number;
-use crate::number::read_number;
 ghost use mathlib.Core.Path.{_≡_};
-ghost use Rattle.words.specs.Orders.{begun, faulty, awaited, «most-words», «job-of»};
+ghost use Rattle.words.specs.Orders.{begun, faulty, awaited, «most-words», «take-job»};
 ghost use Rattle.words.specs.Orders.{«with-fault», «with-job», «with-marks», «with-file», «with-budget», «with-space»};
-ghost use Rattle.words.specs.Orders.{«take-job», «take-option», «take-named», «take-plain», «take-word»};
-ghost use Rattle.words.specs.Orders.{lacking, finished, «is-file»};
 
 // What is to be done. Awaited: no word was read yet.
 pub enum Job {
@@ -79,7 +74,7 @@ pub fn faulty(fault: Fault) -> bool
 }
 
 // Whether no word was read yet.
-fn awaited(job: Job) -> bool
+pub fn awaited(job: Job) -> bool
     ensures { λ r. ⌜ r ≡ awaited job ⌝ }
 {
     match job {
@@ -94,7 +89,7 @@ fn awaited(job: Job) -> bool
 }
 
 // How many words a job takes: a file, a budget, a space.
-fn most_words(job: Job) -> usize
+pub fn most_words(job: Job) -> usize
     ensures { λ r. ⌜ r ≡ «most-words» job ⌝ }
 {
     match job {
@@ -108,33 +103,8 @@ fn most_words(job: Job) -> usize
     }
 }
 
-// Which job a word names.
-fn job_of(word: &[u8]) -> Job
-    ensures { λ r. ⌜ r ≡ «job-of» (now (word .entry)) ⌝ }
-{
-    if same(word, b"check") {
-        return Job::Check;
-    }
-    if same(word, b"largest") {
-        return Job::Largest;
-    }
-    if same(word, b"one") {
-        return Job::One;
-    }
-    if same(word, b"list") {
-        return Job::List;
-    }
-    if same(word, b"--help") {
-        return Job::Help;
-    }
-    if same(word, b"--version") {
-        return Job::Version;
-    }
-    Job::Awaited
-}
-
 impl Order {
-    fn with_fault(self, fault: Fault) -> Order
+    pub fn with_fault(self, fault: Fault) -> Order
         ensures { λ r. ⌜ r ≡ «with-fault» self fault ⌝ }
     {
         let job = self.job;
@@ -148,7 +118,7 @@ impl Order {
         }
     }
 
-    fn with_job(self, job: Job) -> Order
+    pub fn with_job(self, job: Job) -> Order
         ensures { λ r. ⌜ r ≡ «with-job» self job ⌝ }
     {
         let fault = self.fault;
@@ -162,21 +132,21 @@ impl Order {
         }
     }
 
-    fn with_marks(mut self) -> Order
+    pub fn with_marks(mut self) -> Order
         ensures { λ r. ⌜ r ≡ «with-marks» self ⌝ }
     {
         self.marks = true;
         self
     }
 
-    fn with_file(mut self) -> Order
+    pub fn with_file(mut self) -> Order
         ensures { λ r. ⌜ r ≡ «with-file» self ⌝ }
     {
         self.named = 1;
         self
     }
 
-    fn with_budget(mut self, n: Number) -> Order
+    pub fn with_budget(mut self, n: Number) -> Order
         ensures { λ r. ⌜ r ≡ «with-budget» self n ⌝ }
     {
         match n {
@@ -190,7 +160,7 @@ impl Order {
         }
     }
 
-    fn with_space(mut self, n: Number) -> Order
+    pub fn with_space(mut self, n: Number) -> Order
         ensures { λ r. ⌜ r ≡ «with-space» self n ⌝ }
     {
         match n {
@@ -205,7 +175,7 @@ impl Order {
     }
 
     // The first word names the job.
-    fn take_job(self, job: Job) -> Order
+    pub fn take_job(self, job: Job) -> Order
         ensures { λ r. ⌜ r ≡ «take-job» self job ⌝ }
     {
         if awaited(job) {
@@ -213,97 +183,4 @@ impl Order {
         }
         self.with_job(job)
     }
-}
-
-// `--marks` goes with every job that marks; no other word starts with two dashes.
-fn take_option(o: Order, word: &[u8]) -> Order
-    ensures { λ r. ⌜ r ≡ «take-option» o (now (word .entry)) ⌝ }
-{
-    if !same(word, b"--marks") {
-        return o.with_fault(Fault::Unknown);
-    }
-    let job = o.job;
-    if 1 < most_words(job) {
-        return o.with_marks();
-    }
-    o.with_fault(Fault::Superfluous)
-}
-
-// The file's name, then the budget, then the space.
-fn take_named(o: Order, word: &[u8]) -> Order
-    ensures { λ r. ⌜ r ≡ «take-named» o (now (word .entry)) ⌝ }
-{
-    if o.named == 0 {
-        return o.with_file();
-    }
-    if o.named == 1 {
-        return o.with_budget(read_number(word, Order::BUDGET_MOST));
-    }
-    o.with_space(read_number(word, Order::SPACE_MOST))
-}
-
-// As far as the job takes them.
-fn take_plain(o: Order, word: &[u8]) -> Order
-    ensures { λ r. ⌜ r ≡ «take-plain» o (now (word .entry)) ⌝ }
-{
-    let job = o.job;
-    if o.named < most_words(job) {
-        return take_named(o, word);
-    }
-    o.with_fault(Fault::Superfluous)
-}
-
-// One word more. After a fault nothing changes.
-pub fn take(o: Order, word: &[u8]) -> Order
-    ensures { λ r. ⌜ r ≡ «take-word» o (now (word .entry)) ⌝ }
-{
-    let fault = o.fault;
-    if faulty(fault) {
-        return o;
-    }
-    let job = o.job;
-    if awaited(job) {
-        return o.take_job(job_of(word));
-    }
-    if is_option(word) {
-        return take_option(o, word);
-    }
-    take_plain(o, word)
-}
-
-fn lacking(o: Order) -> Order
-    ensures { λ r. ⌜ r ≡ lacking o ⌝ }
-{
-    let job = o.job;
-    if awaited(job) {
-        return o.with_fault(Fault::NoJob);
-    }
-    if o.named != 0 {
-        return o;
-    }
-    if 0 < most_words(job) {
-        return o.with_fault(Fault::NoFile);
-    }
-    o
-}
-
-// After the last word: what is still missing is a fault.
-pub fn finish(o: Order) -> Order
-    ensures { λ r. ⌜ r ≡ finished o ⌝ }
-{
-    let fault = o.fault;
-    if faulty(fault) {
-        return o;
-    }
-    lacking(o)
-}
-
-// Whether a word is the file's name.
-pub fn is_file(o: Order, word: &[u8]) -> bool
-    ensures { λ r. ⌜ r ≡ «is-file» o (now (word .entry)) ⌝ }
-{
-    if o.named != 0 {
-        return false;
-    }
-    take(o, word).named == 1
 }

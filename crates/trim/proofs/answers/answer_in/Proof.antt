@@ -4,11 +4,6 @@ use lib.Seq.{length-take-le}
 use borrow.Author.Needs.{needs}
 use Rattle.trim.proofs.answers.answer_in.Statement.{statement}
 use Rattle.trim.proofs.answers.answer_in.Tie as tie
-use Rattle.trim.proofs.answers.answer_in.Reads as reads
-use Rattle.trim.proofs.answers.answer_in.Lts as lts
-use Rattle.trim.proofs.answers.answer_on.Reads as answer-on-reads
-use Rattle.trim.proofs.doing.job_told.Reads as job-told-reads
-use Rattle.trim.proofs.doing.lent_bytes.Reads as lent-bytes-reads
 
 job-told-requires : tie.Need-job-told-requires
 job-told-requires c κs = search needs

@@ -5,9 +5,6 @@ use lib.ListN.{length}
 use borrow.Author.Needs.{needs}
 use Rattle.trim.proofs.answers.tell_lemmas.Statement.{statement}
 use Rattle.trim.proofs.answers.tell_lemmas.Tie as tie
-use Rattle.trim.proofs.answers.tell_lemmas.Reads as reads
-use Rattle.trim.proofs.answers.tell_lemmas.Lts as lts
-use Rattle.trim.proofs.answers.tell_lemma.Reads as tell-lemma-reads
 
 abbrev Inv-loop : tie.InvT-loop
 Inv-loop file marks i₀ i = Unit {0}
@@ -18,11 +15,14 @@ abbrev μ-loop : tie.MeasureT-loop
 loop-holds : tie.Need-loop-holds Inv-loop μ-loop
 loop-holds c = tt
 
-shared-slice-read-if1 : tie.Need-shared-slice-read-if1 Inv-loop μ-loop
-shared-slice-read-if1 c = omega arith
+shared-slice-read-tell-marked : tie.Need-shared-slice-read-tell-marked Inv-loop μ-loop
+shared-slice-read-tell-marked c = omega arith
 
-tell-lemma-requires : tie.Need-tell-lemma-requires Inv-loop μ-loop
-tell-lemma-requires c κs = search needs
+tell-marked-requires : tie.Need-tell-marked-requires Inv-loop μ-loop
+tell-marked-requires c κs = search needs
+
+returns : tie.Need-returns Inv-loop μ-loop
+returns c = search needs
 
 add-i : tie.Need-add-i Inv-loop μ-loop
 add-i c = omega arith
@@ -33,8 +33,8 @@ loop-less c = omega arith
 loop-again : tie.Need-loop-again Inv-loop μ-loop
 loop-again c = tt
 
-returns : tie.Need-returns Inv-loop μ-loop
-returns c = search needs
+returns-2 : tie.Need-returns-2 Inv-loop μ-loop
+returns-2 c = search needs
 
 pub tell-lemmas-spec : {M : Type 1} → statement M
 tell-lemmas-spec =
@@ -43,9 +43,10 @@ tell-lemmas-spec =
     Inv-loop
     μ-loop
     loop-holds
-    shared-slice-read-if1
-    tell-lemma-requires
+    shared-slice-read-tell-marked
+    tell-marked-requires
+    returns
     add-i
     loop-less
     loop-again
-    returns)
+    returns-2)

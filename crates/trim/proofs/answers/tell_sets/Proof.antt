@@ -5,11 +5,6 @@ use lib.ListN.{length}
 use borrow.Author.Needs.{needs}
 use Rattle.trim.proofs.answers.tell_sets.Statement.{statement}
 use Rattle.trim.proofs.answers.tell_sets.Tie as tie
-use Rattle.trim.proofs.answers.tell_sets.Reads as reads
-use Rattle.trim.proofs.answers.tell_sets.Lts as lts
-use Rattle.trim.proofs.answers.tell_set.Reads as tell-set-reads
-use Rattle.trim.proofs.lines.k_of.Reads as k-of-reads
-use Rattle.text.proofs.row_end.Reads as row-end-reads
 
 abbrev Inv-loop : tie.InvT-loop
 Inv-loop order job file lent count k start₀ told₀ start told = start ≤ length lent
@@ -41,6 +36,9 @@ part-tell-set-end c = omega arith
 tell-set-requires : tie.Need-tell-set-requires Inv-loop μ-loop
 tell-set-requires c κs = search needs
 
+returns : tie.Need-returns Inv-loop μ-loop
+returns c = search needs
+
 add-told : tie.Need-add-told Inv-loop μ-loop
 add-told c = omega arith
 
@@ -50,8 +48,8 @@ loop-less c = omega arith
 loop-again : tie.Need-loop-again Inv-loop μ-loop
 loop-again c = omega arith
 
-returns : tie.Need-returns Inv-loop μ-loop
-returns c = search needs
+returns-2 : tie.Need-returns-2 Inv-loop μ-loop
+returns-2 c = search needs
 
 pub tell-sets-spec : {M : Type 1} → statement M
 tell-sets-spec =
@@ -67,7 +65,8 @@ tell-sets-spec =
     part-tell-set-start
     part-tell-set-end
     tell-set-requires
+    returns
     add-told
     loop-less
     loop-again
-    returns)
+    returns-2)

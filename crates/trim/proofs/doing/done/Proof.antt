@@ -1,15 +1,9 @@
-use mathlib.Core.Path.{sym}
 -- `trim::doing::done` goes by the job, as the definition does. Assumes nothing.
+use mathlib.Core.Path.{sym}
 use Rattle.problem.specs.Checks.{check-outcome}
 use borrow.Author.Needs.{needs}
 use Rattle.trim.proofs.doing.done.Statement.{statement}
 use Rattle.trim.proofs.doing.done.Tie as tie
-use Rattle.trim.proofs.doing.done.Reads as reads
-use Rattle.trim.proofs.doing.done.Lts as lts
-use Rattle.jobs.proofs.list_all.Reads as list-all-reads
-use Rattle.jobs.proofs.mark_largest.Reads as mark-largest-reads
-use Rattle.jobs.proofs.mark_one.Reads as mark-one-reads
-use Rattle.problem.proofs.check.Reads as check-reads
 
 enum-told : tie.Need-enum-told
 enum-told c = search needs

@@ -5,9 +5,6 @@ use Rattle.trim.specs.Lines.{error-text}
 use borrow.Author.Needs.{needs}
 use Rattle.trim.proofs.lines.error_text.Statement.{statement}
 use Rattle.trim.proofs.lines.error_text.Tie as tie
-use Rattle.trim.proofs.lines.error_text.Reads as reads
-use Rattle.trim.proofs.lines.error_text.Lts as lts
-use Rattle.told.proofs.refusal_line.Reads as refusal-line-reads
 
 returns : tie.Need-returns
 unfolding error-text

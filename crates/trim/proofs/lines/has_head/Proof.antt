@@ -3,8 +3,6 @@ use borrow.Author.Tests.{eq-eqb, ne-eqb, not-true, not-false}
 use Rattle.trim.specs.Lines.{has-head}
 use Rattle.trim.proofs.lines.has_head.Statement.{statement}
 use Rattle.trim.proofs.lines.has_head.Tie as tie
-use Rattle.trim.proofs.lines.has_head.Reads as reads
-use Rattle.trim.proofs.lines.has_head.Lts as lts
 
 returns : tie.Need-returns
 unfolding has-head

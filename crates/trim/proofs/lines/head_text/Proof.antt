@@ -1,27 +1,15 @@
 -- `trim::lines::head_text` makes the definition's tests, one after another. Assumes nothing.
-use Prim.Native.Nat.{ℕ, min, _≤_}
-use mathlib.Core.Path.{_≡_, sym, ap, _∙_}
+use mathlib.Core.Path.{sym, ap, _∙_}
 use mathlib.Core.Bool.{Bool}
-use mathlib.Core.List.{List}
 use native.Mathlib.Omega.{arith}
-use lib.ListN.{length, take}
 use lib.Seq.{length-take-le}
 use borrow.Author.Tests.{not-true, not-false}
 use Rattle.text.specs.PageLaws.{holds-none}
-use Rattle.told.specs.Answers.{marked}
 use Rattle.trim.specs.Lines.{has-head, head-text}
 use Rattle.trim.specs.LineLaws.{kept-is}
 use borrow.Author.Needs.{needs}
 use Rattle.trim.proofs.lines.head_text.Statement.{statement}
 use Rattle.trim.proofs.lines.head_text.Tie as tie
-use Rattle.trim.proofs.lines.head_text.Reads as reads
-use Rattle.trim.proofs.lines.head_text.Lts as lts
-use Rattle.told.proofs.answer_line.Reads as answer-line-reads
-use Rattle.told.proofs.count_marks.Reads as count-marks-reads
-use Rattle.trim.proofs.lines.has_head.Reads as has-head-reads
-use Rattle.trim.proofs.lines.is_list.Reads as is-list-reads
-use Rattle.trim.proofs.lines.k_of.Reads as k-of-reads
-use Rattle.text.proofs.row_end.Reads as row-end-reads
 
 returns : tie.Need-returns
 unfolding head-text

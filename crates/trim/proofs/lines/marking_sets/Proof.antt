@@ -2,8 +2,6 @@
 use borrow.Author.Tests.{eq-eqb, ne-eqb}
 use Rattle.trim.proofs.lines.marking_sets.Statement.{statement}
 use Rattle.trim.proofs.lines.marking_sets.Tie as tie
-use Rattle.trim.proofs.lines.marking_sets.Reads as reads
-use Rattle.trim.proofs.lines.marking_sets.Lts as lts
 
 returns : tie.Need-returns
 returns c = rw (eq-eqb _ 0 (c .if1 .taken))

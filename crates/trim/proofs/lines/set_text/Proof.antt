@@ -1,17 +1,11 @@
 -- `trim::lines::set_text` makes the definition's tests, one after another. Assumes nothing.
-use mathlib.Core.Path.{sym, ap, _∙_}
+use mathlib.Core.Path.{sym, _∙_}
 use borrow.Author.Tests.{not-true, not-false}
 use Rattle.text.specs.PageLaws.{holds-none}
 use Rattle.trim.specs.Lines.{set-text}
 use borrow.Author.Needs.{needs}
 use Rattle.trim.proofs.lines.set_text.Statement.{statement}
 use Rattle.trim.proofs.lines.set_text.Tie as tie
-use Rattle.trim.proofs.lines.set_text.Reads as reads
-use Rattle.trim.proofs.lines.set_text.Lts as lts
-use Rattle.told.proofs.count_marks.Reads as count-marks-reads
-use Rattle.told.proofs.marks_line.Reads as marks-line-reads
-use Rattle.told.proofs.set_line.Reads as set-line-reads
-use Rattle.trim.proofs.lines.is_list.Reads as is-list-reads
 
 marks-line-requires : tie.Need-marks-line-requires
 marks-line-requires c κs = search needs

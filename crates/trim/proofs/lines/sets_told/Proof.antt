@@ -2,9 +2,6 @@
 use borrow.Author.Needs.{needs}
 use Rattle.trim.proofs.lines.sets_told.Statement.{statement}
 use Rattle.trim.proofs.lines.sets_told.Tie as tie
-use Rattle.trim.proofs.lines.sets_told.Reads as reads
-use Rattle.trim.proofs.lines.sets_told.Lts as lts
-use Rattle.trim.proofs.lines.marking_sets.Reads as marking-sets-reads
 
 enum-told : tie.Need-enum-told
 enum-told c = search needs

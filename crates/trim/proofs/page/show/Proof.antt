@@ -5,17 +5,35 @@ use borrow.Author.Needs.{needs}
 use Rattle.trim.proofs.page.show.Statement.{statement}
 use Rattle.trim.proofs.page.show.Tie as tie
 
+returns : tie.Need-returns
+returns c = search needs
+
 slice-aggregate-write-all : tie.Need-slice-aggregate-write-all
-slice-aggregate-write-all c = sym (length-take-le _ _ (c .before .if1 .taken))
+slice-aggregate-write-all c = sym (length-take-le _ _ (c .before .if1 .left))
 
 write-all-requires : tie.Need-write-all-requires
 write-all-requires c κs = search needs
 
-returns : tie.Need-returns
-returns c = search needs
-
 returns-2 : tie.Need-returns-2
 returns-2 c = search needs
 
+slice-aggregate-fail : tie.Need-slice-aggregate-fail
+slice-aggregate-fail c = search needs
+
+fail-requires : tie.Need-fail-requires
+fail-requires c κs = search needs
+
+returns-3 : tie.Need-returns-3
+returns-3 c = search needs
+
 pub show-spec : {M : Type 1} → statement M
-show-spec = tie.close (tie.spec slice-aggregate-write-all write-all-requires returns returns-2)
+show-spec =
+    tie.close
+    (tie.spec
+    returns
+    slice-aggregate-write-all
+    write-all-requires
+    returns-2
+    slice-aggregate-fail
+    fail-requires
+    returns-3)

@@ -4,10 +4,6 @@ use lib.Seq.{length-take-le}
 use borrow.Author.Needs.{needs}
 use Rattle.trim.proofs.reading.work_on.Statement.{statement}
 use Rattle.trim.proofs.reading.work_on.Tie as tie
-use Rattle.trim.proofs.reading.work_on.Reads as reads
-use Rattle.trim.proofs.reading.work_on.Lts as lts
-use Rattle.trim.proofs.answers.answer.Reads as answer-reads
-use Rattle.trim.proofs.reading.tell_not_read.Reads as tell-not-read-reads
 
 tell-not-read-requires : tie.Need-tell-not-read-requires
 tell-not-read-requires c κs = search needs

@@ -1,9 +1,9 @@
--- `words::order::finish` makes the definition's test. Assumes nothing.
+-- `words::taking::finish` makes the definition's test. Assumes nothing.
 use mathlib.Core.Path.{sym, _∙_}
 use Rattle.words.specs.Orders.{finished}
 use borrow.Author.Needs.{needs}
-use Rattle.words.proofs.order.finish.Statement.{statement}
-use Rattle.words.proofs.order.finish.Tie as tie
+use Rattle.words.proofs.taking.finish.Statement.{statement}
+use Rattle.words.proofs.taking.finish.Tie as tie
 
 faulty-requires : tie.Need-faulty-requires
 faulty-requires c κs = search needs

@@ -1,10 +1,10 @@
--- `words::order::take_plain` makes the definition's test. Assumes nothing.
+-- `words::taking::take_plain` makes the definition's test. Assumes nothing.
 use mathlib.Core.Path.{sym}
 use borrow.Author.Tests.{lt-ltb, le-ltb}
 use Rattle.words.specs.Orders.{take-plain}
 use borrow.Author.Needs.{needs}
-use Rattle.words.proofs.order.take_plain.Statement.{statement}
-use Rattle.words.proofs.order.take_plain.Tie as tie
+use Rattle.words.proofs.taking.take_plain.Statement.{statement}
+use Rattle.words.proofs.taking.take_plain.Tie as tie
 
 most-words-requires : tie.Need-most-words-requires
 most-words-requires c κs = search needs

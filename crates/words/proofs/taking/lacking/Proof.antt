@@ -1,10 +1,10 @@
--- `words::order::lacking` makes the definition's tests, one after another. Assumes nothing.
+-- `words::taking::lacking` makes the definition's tests, one after another. Assumes nothing.
 use mathlib.Core.Path.{sym, _∙_}
 use borrow.Author.Tests.{eq-eqb, ne-eqb, lt-ltb, le-ltb}
 use Rattle.words.specs.Orders.{lacking}
 use borrow.Author.Needs.{needs}
-use Rattle.words.proofs.order.lacking.Statement.{statement}
-use Rattle.words.proofs.order.lacking.Tie as tie
+use Rattle.words.proofs.taking.lacking.Statement.{statement}
+use Rattle.words.proofs.taking.lacking.Tie as tie
 
 awaited-requires : tie.Need-awaited-requires
 awaited-requires c κs = search needs

@@ -1,9 +1,9 @@
--- `words::order::job_of` compares the word with each job's, one after another. Assumes nothing.
+-- `words::taking::job_of` compares the word with each job's, one after another. Assumes nothing.
 use mathlib.Core.Path.{sym, _∙_}
 use Rattle.words.specs.Orders.{job-of}
 use borrow.Author.Needs.{needs}
-use Rattle.words.proofs.order.job_of.Statement.{statement}
-use Rattle.words.proofs.order.job_of.Tie as tie
+use Rattle.words.proofs.taking.job_of.Statement.{statement}
+use Rattle.words.proofs.taking.job_of.Tie as tie
 
 slice-aggregate-same : tie.Need-slice-aggregate-same
 slice-aggregate-same c = search needs

@@ -1,10 +1,10 @@
--- `words::order::take_named` makes the definition's tests, one after another. Assumes nothing.
+-- `words::taking::take_named` makes the definition's tests, one after another. Assumes nothing.
 use mathlib.Core.Path.{ap, _∙_}
 use borrow.Author.Tests.{eq-eqb, ne-eqb}
 use Rattle.words.specs.Orders.{with-budget, with-space, take-named}
 use borrow.Author.Needs.{needs}
-use Rattle.words.proofs.order.take_named.Statement.{statement}
-use Rattle.words.proofs.order.take_named.Tie as tie
+use Rattle.words.proofs.taking.take_named.Statement.{statement}
+use Rattle.words.proofs.taking.take_named.Tie as tie
 
 with-file-requires : tie.Need-with-file-requires
 with-file-requires c κs = search needs

@@ -1,10 +1,10 @@
--- `words::order::take_option` makes the definition's tests, one after another. Assumes nothing.
+-- `words::taking::take_option` makes the definition's tests, one after another. Assumes nothing.
 use mathlib.Core.Path.{sym, _∙_}
 use borrow.Author.Tests.{not-true, not-false, lt-ltb, le-ltb}
 use Rattle.words.specs.Orders.{take-option}
 use borrow.Author.Needs.{needs}
-use Rattle.words.proofs.order.take_option.Statement.{statement}
-use Rattle.words.proofs.order.take_option.Tie as tie
+use Rattle.words.proofs.taking.take_option.Statement.{statement}
+use Rattle.words.proofs.taking.take_option.Tie as tie
 
 slice-aggregate-same : tie.Need-slice-aggregate-same
 slice-aggregate-same c = search needs

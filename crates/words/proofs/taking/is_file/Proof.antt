@@ -1,10 +1,10 @@
--- `words::order::is_file` makes the definition's tests. Assumes nothing.
+-- `words::taking::is_file` makes the definition's tests. Assumes nothing.
 use mathlib.Core.Path.{sym}
 use borrow.Author.Tests.{eq-eqb, ne-eqb}
 use Rattle.words.specs.Orders.{is-file}
 use borrow.Author.Needs.{needs}
-use Rattle.words.proofs.order.is_file.Statement.{statement}
-use Rattle.words.proofs.order.is_file.Tie as tie
+use Rattle.words.proofs.taking.is_file.Statement.{statement}
+use Rattle.words.proofs.taking.is_file.Tie as tie
 
 returns : tie.Need-returns
 unfolding is-file

@@ -1,9 +1,9 @@
--- `words::order::take` makes the definition's tests, one after another. Assumes nothing.
+-- `words::taking::take` makes the definition's tests, one after another. Assumes nothing.
 use mathlib.Core.Path.{sym, ap, _∙_}
 use Rattle.words.specs.Orders.{take-job, take-word}
 use borrow.Author.Needs.{needs}
-use Rattle.words.proofs.order.take.Statement.{statement}
-use Rattle.words.proofs.order.take.Tie as tie
+use Rattle.words.proofs.taking.take.Statement.{statement}
+use Rattle.words.proofs.taking.take.Tie as tie
 
 faulty-requires : tie.Need-faulty-requires
 faulty-requires c κs = search needs
