@@ -155,14 +155,15 @@ pub length-blank : (n : ℕ) → length (blank n) ≡ suc n
 unfolding blank
 length-blank n = length-replicate (suc n) none
 
+-- a setting with no entry set
+pub unset-at : (k x : ℕ) → getD {A = Option Bool} (replicate k none) x none ≡ none
+unset-at zero x = refl
+unset-at (suc k) zero = refl
+unset-at (suc k) (suc x) = unset-at k x
+
 pub blank-completes : (n : ℕ) (w : Values) → Completes (blank n) w
 unfolding blank
 blank-completes n w x b e = absurd (Option·none-ne-some b (sym (unset-at (suc n) x) ∙ e))
-  where
-    unset-at : (k x : ℕ) → getD {A = Option Bool} (replicate k none) x none ≡ none
-    unset-at zero x = refl
-    unset-at (suc k) zero = refl
-    unset-at (suc k) (suc x) = unset-at k x
 
 -- the values that complete a setting
 

@@ -13,7 +13,7 @@ use Rattle.meaning.specs.Clauses.{Literal, pos, neg, Clause, variable, negation
 use Rattle.meaning.specs.Search.{Setting, blank, value, with-literal, has-true, only-false, unset-places, forced-by, open-in, first-of, Move, closed, satisfied, force, try, move, Ending, can, cannot, lost, after, then-false, follow, search-from, searched}
 use Rattle.meaning.specs.Rules.{answer}
 use Rattle.laws.specs.Within.{ClauseWithin, Within}
-use Rattle.laws.specs.Setting.{variable-negation, length-with, length-blank, value-of-entry, entry-other}
+use Rattle.laws.specs.Setting.{variable-negation, length-with, length-blank, value-of-entry, entry-other, unset-at}
 use Rattle.laws.specs.Moves.{Told, told, first-at, forced-unset, open-unset, unset-in-range}
 use Rattle.laws.specs.SearchRight.{searched-never-lost}
 
@@ -147,8 +147,3 @@ wider few most i cs within =
     (same-search few cs within (suc few) (suc most) (omega arith) (blank few) (blank most)
     (λ x h. unset-at (suc few) x ∙ sym (unset-at (suc most) x)) (length-blank few) (omega (arith, length-blank most)))
     (searched-never-lost few cs within)
-  where
-    unset-at : (k x : ℕ) → getD {A = Option Bool} (replicate k none) x none ≡ none
-    unset-at zero x = refl
-    unset-at (suc k) zero = refl
-    unset-at (suc k) (suc x) = unset-at k x

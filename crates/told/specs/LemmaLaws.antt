@@ -9,6 +9,7 @@ use Rattle.meaning.specs.Clauses.{Clause}
 use Rattle.meaning.specs.File.{accepted, literal-at, literals}
 use Rattle.format.specs.Section.{next-record, clause-at, section, Inside, problem-at}
 use Rattle.format.specs.declared.Problem.{Problem}
+use Rattle.problem.specs.Held.{length-section}
 use Rattle.text.specs.Ascii.{ascii}
 use Rattle.text.specs.Page.{Appends}
 use Rattle.text.specs.PageLaws.{Leaves, leaves-is, leaves-less}
@@ -83,19 +84,14 @@ section-fewer file at position zero h = absurd (omega (arith, h))
 section-fewer file at zero (suc count) h = refl
 section-fewer file at (suc position) (suc count) h = section-fewer file (next-record file at) position count (omega arith)
 
-section-length : (file : List ℕ) (at count : ℕ) → length (section file at count) ≡ count
-unfolding section
-section-length file at zero = refl
-section-length file at (suc count) = ap suc (section-length file (next-record file at) count)
-
 -- the lemma at a position that there is, and at one that there isn't
 module _ (file : List ℕ) (p : Problem) (position : ℕ) where
   pub lemma-there : position < p .k → (clause : Clause) → clause ≡ getD (section file (p .«lemmas_at») (suc position)) position []
       → clause-text clause ≡ lemma-text (accepted (problem-at file p)) position
   unfolding lemma-text problem-at
   lemma-there h clause e =
-      rw (section-length, lt-ltb position (p .k) h) (ap clause-text (e ∙ section-fewer file (p .«lemmas_at») position (p .k) h))
+      rw (length-section, lt-ltb position (p .k) h) (ap clause-text (e ∙ section-fewer file (p .«lemmas_at») position (p .k) h))
 
   pub lemma-missing : p .k ≤ position → ascii " there is none\n" ≡ lemma-text (accepted (problem-at file p)) position
   unfolding lemma-text problem-at
-  lemma-missing h = rw (section-length, le-ltb position (p .k) h)
+  lemma-missing h = rw (length-section, le-ltb position (p .k) h)
