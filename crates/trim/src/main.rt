@@ -1,10 +1,8 @@
 // The program `trim`: it takes its words one after another, does the job that they order, and tells what came of it. Answers go to standard
 // output; refusals, and what is wrong with the words, to standard error.
-mod answers;
-mod doing;
-mod lines;
 mod page;
 mod reading;
+mod telling;
 
 use words::Job;
 use words::Order;

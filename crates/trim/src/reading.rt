@@ -1,6 +1,6 @@
 // The file: opened, read whole, and handed to the job.
-use crate::answers;
 use crate::page;
+use crate::telling;
 use words::Order;
 ghost use mathlib.Core.Path.{_≡_};
 ghost use Prim.Native.Nat.{_+_, _≤_};
@@ -58,7 +58,7 @@ fn work_on(order: Order, name: &[u8], file: &[u8], n: usize) {
         tell_not_read(name);
         return;
     }
-    answers::answer(order, &file[..n]);
+    telling::answer(order, &file[..n]);
 }
 
 fn read_from(order: Order, name: &[u8], fd: i32) {
