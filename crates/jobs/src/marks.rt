@@ -9,7 +9,7 @@ ghost use Rattle.format.specs.Section.{Placed, «problem-at»};
 ghost use Rattle.problem.specs.Answers.{«report-of»};
 ghost use Rattle.jobs.specs.Outcome.{«outcome-of»};
 ghost use Rattle.jobs.specs.Leaving.{«left-by»};
-use crate::rows::write_row;
+use branches::rows::write_row;
 use format::Problem;
 use problem::Checked;
 use problem::Report;

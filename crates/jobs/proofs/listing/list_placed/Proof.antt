@@ -24,7 +24,7 @@ use Rattle.jobs.proofs.listing.finish.Reads as finish-reads
 use Rattle.jobs.proofs.listing.reported.Reads as reported-reads
 use Rattle.sets.proofs.picks.judge.Reads as judge-reads
 use Rattle.sets.proofs.picks.largest.Reads as largest-reads
-use Rattle.jobs.proofs.nodes.node.Reads as node-reads
+use Rattle.branches.proofs.nodes.node.Reads as node-reads
 use Rattle.sets.proofs.members.count.Reads as count-reads
 use Rattle.sets.proofs.members.nothing.Reads as nothing-reads
 
