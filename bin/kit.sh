@@ -1,4 +1,4 @@
-# Where the toolchain is, and how a C program is built with it for x86-64 and run. Read by scripts with '.', from the project's folder.
+# Where the toolchain is, and how a program for x86-64 is built with it and run. Read by scripts with '.'; c_program is called in the project's folder.
 kit=$(dirname "$(dirname "$(rt doc)")")
 machine=$(uname -m)
 own=$kit/on/$machine
@@ -17,7 +17,12 @@ c_program() { # SOURCE PROGRAM
     "$own/bin/rattle-link" --target x86_64-unknown-linux-gnu --toolchain "$tools" -o "$2" "$2.o" target/staticlib/libtrim_c.a
 }
 
-# A script that runs a program built for x86-64: on another processor by the toolchain's emulator.
+# Runs a program built for x86-64: on another processor by the toolchain's emulator.
+run_program() { # PROGRAM WORDS...
+    $emulator "$tools/lib/ld-linux-x86-64.so.2" --library-path "$tools/lib" "$@"
+}
+
+# A script that does the same.
 runner() { # SCRIPT PROGRAM
     cat >"$1" <<SCRIPT
 #!/bin/sh
