@@ -55,19 +55,19 @@ fn tell_fault(order: Order, i: usize) {
     let mut buf = io::large_buffer();
     let n = os::arg(i, &mut buf);
     let mut page = page::line();
-    let end = words::fault_line(order, &buf[..n], &mut page);
+    let end = usage::fault_line(order, &buf[..n], &mut page);
     page::show(libc::STDERR_FILENO, &page, end);
 }
 
 fn tell_help() {
     let mut page = io::buffer();
-    let end = words::help_text(&mut page);
+    let end = usage::help_text(&mut page);
     page::show(libc::STDOUT_FILENO, &page, end);
 }
 
 fn tell_version() {
     let mut page = page::line();
-    let end = words::version_line(&mut page);
+    let end = usage::version_line(&mut page);
     page::show(libc::STDOUT_FILENO, &page, end);
 }
 

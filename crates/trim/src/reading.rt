@@ -43,13 +43,13 @@ fn read_all(fd: i32, buf: &mut [u8]) -> usize {
 
 fn tell_not_opened(name: &[u8]) {
     let mut page = page::line();
-    let end = words::not_opened(name, &mut page);
+    let end = usage::not_opened(name, &mut page);
     page::fail(&page, end);
 }
 
 fn tell_not_read(name: &[u8]) {
     let mut page = page::line();
-    let end = words::not_read(name, &mut page);
+    let end = usage::not_read(name, &mut page);
     page::fail(&page, end);
 }
 

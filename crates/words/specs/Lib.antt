@@ -1,9 +1,7 @@
--- Which order a command line gives, and which text tells of it.
+-- Which order a command line gives.
 pub mod Words
 pub mod Numbers
 pub mod Orders
-pub mod Texts
 pub mod WordLaws
 pub mod OrderLaws
 pub mod Cases
-pub mod TextCases

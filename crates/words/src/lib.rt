@@ -1,9 +1,8 @@
-// The words of a command line of the program `trim`: read one after another into an order, and the texts that tell what is wrong with them.
+// The words of a command line of the program `trim`, read one after another into an order.
 mod compare;
 mod number;
 mod order;
 mod taking;
-mod texts;
 
 pub use compare::same;
 pub use number::Number;
@@ -16,8 +15,3 @@ pub use order::faulty;
 pub use taking::finish;
 pub use taking::is_file;
 pub use taking::take;
-pub use texts::fault_line;
-pub use texts::help_text;
-pub use texts::not_opened;
-pub use texts::not_read;
-pub use texts::version_line;
