@@ -130,6 +130,7 @@ fn main() {
         }
     }
     line("loader", Job::Largest, &stored("loader"), 1_000_000);
+    line("loader", Job::List, &stored("loader"), 1_000_000);
     if long {
         line("loader", Job::One, &stored("loader"), u32::MAX);
     }
