@@ -3,7 +3,7 @@
  * Every call may be made with any bytes as the file, any budget and any length of lent bytes: no prior check is asked. The only duties of a
  * caller are those of C: `file` points to `file_len` readable bytes, `marks` or `rows` to that many writable ones (a length of 0 takes any
  * pointer that is not null), `report` to seven words, and no two of them overlap. A call reads nothing else, writes nothing else, keeps
- * nothing, and takes no lock; calls may run side by side. It needs up to 2 MiB of stack.
+ * nothing, and takes no lock; calls may run side by side. It needs up to 1.5 MiB of stack.
  *
  * Each call returns the number of its answer, 0 for an answer and 1 to 12 for a refusal, and fills `report`:
  *

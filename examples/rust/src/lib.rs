@@ -1,8 +1,8 @@
 //! The proved subset trimmer for Rust: its four C functions as four safe ones.
 //!
 //! Any bytes may be passed as the file, with any budget: a file that is not a problem file is refused, and nothing needs to
-//! be checked before. A call keeps nothing and takes no lock, so calls may run side by side. It needs up to 1 MiB of stack,
-//! which both the main thread and a thread that Rust spawns have.
+//! be checked before. A call keeps nothing and takes no lock, so calls may run side by side. It needs up to 1.5 MiB of stack:
+//! less than the main thread has, and less than the 2 MiB of a thread that Rust spawns.
 //!
 //! ```
 //! // One latch that keeps its value, starts true, and is bad when false; the one candidate lemma says that it is true.
