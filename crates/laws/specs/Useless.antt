@@ -21,14 +21,14 @@ use Rattle.meaning.specs.Demands.{Trimmer, In, Answered, set-left, rows-left, o
 use Rattle.meaning.specs.Cases
 use Rattle.meaning.specs.Cases.{file-of, case-A, case-B, case-E, sevens, plenty, starred, starred-hold, line, run-line, outcome-of}
 use Rattle.laws.specs.Basics.{nonzero}
-use Rattle.laws.specs.Accepted.{accepted-well-formed}
+use Rattle.laws.specs.Named.{accepted-well-formed}
 use Rattle.laws.specs.Paper.{one-minimal, largest-one}
 use Rattle.laws.specs.DemandsHold.{largest-left, one-left, on-accepted}
 
 -- ---- what the table says of cases A, B and E
 
 reads : (read (file-of case-A) ≡ accepted case-A) × (read (file-of case-B) ≡ accepted case-B) × (read (file-of case-E) ≡ accepted case-E)
-unfolding file-of case-A case-B case-E Cases.two Cases.literal-bytes Cases.clause-bytes Cases.record-bytes Cases.clause-records Cases.takes Cases.unit Clauses.variable Clauses.negation Clauses.is-true Clauses.any Clauses.all Clauses.holds Clauses.all-hold File.no-kind File.kind-table File.kind-row File.two-at File.signed File.literal-at File.literals File.largest-variable File.literal-count File.offends File.before-offence File.body-length File.kind-at File.body-at File.row-at File.same-kind File.is-clause File.head-short File.kind-wrong File.length-wrong File.body-short File.too-many File.counts-wrong File.body-literals File.body-most File.offence-at File.rule-if File.record-rules File.refuse-if File.first-wrong File.span-at File.one-if-clause File.past File.and-before File.at-end File.unless-end File.unless-refused File.walk File.at-start File.walked File.clause-of File.keep-if File.of-kind File.clauses-of File.problem-of File.reading-of File.read
+unfolding file-of case-A case-B case-E Cases.two Cases.literal-bytes Cases.clause-bytes Cases.record-bytes Cases.clause-records Cases.takes Cases.unit Clauses.variable Clauses.negation Clauses.is-true Clauses.any Clauses.all Clauses.holds Clauses.all-hold File.no-kind File.kind-table File.kind-row File.two-at File.signed File.literal-at File.literals File.between File.names File.literal-count File.offends File.before-offence File.body-length File.kind-at File.body-at File.row-at File.same-kind File.is-clause File.head-short File.kind-wrong File.length-wrong File.body-short File.too-many File.counts-wrong File.body-literals File.body-names File.offence-at File.rule-if File.record-rules File.refuse-if File.first-wrong File.span-at File.one-if-clause File.past File.and-before File.at-end File.unless-end File.unless-refused File.walk File.at-start File.walked File.clause-of File.keep-if File.of-kind File.clauses-of File.problem-of File.reading-of File.read
 reads = (refl, refl, refl)
 
 -- what call number i of the table comes to
