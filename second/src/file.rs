@@ -36,11 +36,20 @@ impl Problem {
         self.init.len() + self.tr.len() + self.bad.len() + self.lemmas.len()
     }
 
-    fn largest_variable(&self, kind: usize) -> usize {
-        match TABLE[kind - 1].variables {
-            Variables::None => 0,
-            Variables::State => self.n,
-            Variables::All => self.variables(),
+    /// The variables that a clause of this kind may name, by rising number.
+    pub fn named_by(&self, kind: usize) -> Vec<usize> {
+        (1..=self.variables()).filter(|&variable| self.is_in(TABLE[kind - 1].variables, variable)).collect()
+    }
+
+    /// 0 is in no class.
+    fn is_in(&self, class: Variables, variable: usize) -> bool {
+        let state = (1..=self.n).contains(&variable);
+        let input = (2 * self.n + 1..=self.variables()).contains(&variable);
+        match class {
+            Variables::None => false,
+            Variables::State => state,
+            Variables::StateAndInputs => state || input,
+            Variables::All => (1..=self.variables()).contains(&variable),
         }
     }
 
@@ -61,9 +70,12 @@ pub const BAD: usize = 4;
 pub const LEMMA: usize = 5;
 pub const END: usize = 6;
 
+/// The classes of variables that a kind may name. Only `All` has the next values.
+#[derive(Clone, Copy)]
 enum Variables {
     None,
     State,
+    StateAndInputs,
     All,
 }
 
@@ -78,7 +90,7 @@ const TABLE: [Kind; 6] = [
     Kind { shortest: 4, longest: 4, variables: Variables::None },
     Kind { shortest: 0, longest: 128, variables: Variables::State },
     Kind { shortest: 0, longest: 128, variables: Variables::All },
-    Kind { shortest: 0, longest: 128, variables: Variables::State },
+    Kind { shortest: 0, longest: 128, variables: Variables::StateAndInputs },
     Kind { shortest: 0, longest: 128, variables: Variables::State },
     Kind { shortest: 0, longest: 0, variables: Variables::None },
 ];
@@ -174,9 +186,9 @@ impl Record<'_> {
             let allowed = (1..=Problem::STATE).contains(&n) && m <= Problem::HELPERS;
             return if allowed { Ok(()) } else { self.refuse(5) };
         }
-        let largest = problem.largest_variable(self.kind);
+        let class = TABLE[self.kind - 1].variables;
         for (at, literal) in self.literals().into_iter().enumerate() {
-            if literal == 0 || literal.unsigned_abs() as usize > largest {
+            if !problem.is_in(class, literal.unsigned_abs() as usize) {
                 return Err(Refusal { number: 6, place: self.body() + 2 * at });
             }
         }
