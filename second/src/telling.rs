@@ -4,6 +4,7 @@ use crate::bench::case;
 use crate::find::telling_call;
 use crate::jobs::{Job, Report};
 use crate::mutants::{Rules, MUTANTS};
+use crate::random::problem_with_state_bad;
 use crate::refusals::refusals;
 use crate::subject::{Call, Outcome, Second};
 
@@ -35,7 +36,7 @@ fn telling(mutant: Rules) -> Telling {
         let call = Call { job: Job::Largest, file: case("Q").file(), budget: 0, space: 0 };
         return Telling { mutant, path: "Q.problem".to_string(), call };
     }
-    let call = telling_call(mutant, FILES, SEED).expect("some random file tells this mutant");
+    let call = telling_call(mutant, problem_with_state_bad, FILES, SEED).expect("some random file tells this mutant");
     Telling { mutant, path: format!("mutants/{}.problem", mutant.name()), call }
 }
 

@@ -110,6 +110,57 @@ fn has_equal(list: &[Clause]) -> bool {
     (1..list.len()).any(|at| !list[at].is_empty() && list[..at].contains(&list[at]))
 }
 
+fn is_input(problem: &Problem, literal: i16) -> bool {
+    literal.unsigned_abs() as usize > 2 * problem.n
+}
+
+fn names_input(problem: &Problem, clause: &Clause) -> bool {
+    clause.iter().any(|&literal| is_input(problem, literal))
+}
+
+fn bad_names_input(problem: &Problem) -> bool {
+    problem.bad.iter().any(|clause| names_input(problem, clause))
+}
+
+/// The problem with its inputs and helpers taken out of the Bad clauses: fewer states are bad, or as many.
+fn without_input_literals(problem: &Problem) -> Problem {
+    let mut other = problem.clone();
+    other.bad.iter_mut().for_each(|clause| clause.retain(|&literal| !is_input(problem, literal)));
+    other
+}
+
+/// The problem without the Bad clauses that name an input or helper: more states are bad, or as many.
+fn without_input_clauses(problem: &Problem) -> Problem {
+    let mut other = problem.clone();
+    other.bad.retain(|clause| !names_input(problem, clause));
+    other
+}
+
+fn same_rows(problem: &Problem, other: &Problem) -> bool {
+    Walk::of(problem).minimal_sets() == Walk::of(other).minimal_sets()
+}
+
+#[test]
+fn bad_often_names_inputs_and_safety_depends_on_them_both_ways() {
+    let with_inputs: Vec<Problem> = files().filter(|problem| problem.m > 0).collect();
+    let count = |test: &dyn Fn(&Problem) -> bool| with_inputs.iter().filter(|problem| test(problem)).count();
+    let some_bad = |problem: &Problem, test: &dyn Fn(&Clause) -> bool| problem.bad.iter().any(test);
+    let mixed = |problem: &Problem, clause: &Clause| clause.iter().any(|&literal| !is_input(problem, literal));
+    let alone = |problem: &Problem, clause: &Clause| names_input(problem, clause) && !mixed(problem, clause);
+    let counts = [
+        count(&|problem| some_bad(problem, &|clause| names_input(problem, clause) && mixed(problem, clause))),
+        count(&|problem| some_bad(problem, &|clause| alone(problem, clause))),
+        count(&|problem| some_bad(problem, &|clause| alone(problem, clause) && repeats(clause, 1))),
+        count(&|problem| some_bad(problem, &|clause| alone(problem, clause) && repeats(clause, -1))),
+        count(&|problem| !same_rows(problem, &without_input_literals(problem))),
+        count(&|problem| !same_rows(problem, &without_input_clauses(problem))),
+    ];
+    let (named, all) = (count(&bad_names_input), with_inputs.len());
+    println!("{named} of {all}, {counts:?}");
+    assert!(3 * named >= all && 2 * named <= all, "{named} of {all}");
+    assert!(counts.iter().all(|&found| found >= 200), "{counts:?}");
+}
+
 #[test]
 fn the_files_hold_every_oddity_and_every_ending() {
     let all: Vec<Problem> = files().collect();
