@@ -13,6 +13,7 @@ pub mod library;
 pub mod limits;
 pub mod listing;
 pub mod loader;
+pub mod misread;
 pub mod mutants;
 pub mod notation;
 pub mod questions;
