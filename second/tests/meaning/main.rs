@@ -2,6 +2,7 @@
 
 mod walk;
 
+use second::bench::case;
 use second::file::{read, Clause, Problem};
 use second::jobs::{call, Job, Report};
 use second::mutants::Rules;
@@ -95,6 +96,16 @@ fn a_stopped_listing_holds_the_first_rows_of_the_same_list() {
             assert!(lent[kept..].iter().all(|&byte| byte == UNTOUCHED), "{problem}");
         }
     }
+}
+
+#[test]
+fn the_checksum_case_walked_has_the_rows_that_are_listed() {
+    let problem = case("checksum").problem();
+    let walk = Walk::of(&problem);
+    assert_eq!(marks(&walk.largest()), [1, 1, 1, 0, 1, 0]);
+    let rows: Vec<Vec<u8>> = walk.minimal_sets().iter().map(|set| marks(set)).collect();
+    assert_eq!(rows, [[0, 1, 1, 0, 0, 0], [0, 0, 0, 0, 1, 0]]);
+    assert!(!walk.reaches_bad());
 }
 
 fn some_clause(problem: &Problem, test: impl Fn(&Clause) -> bool) -> bool {
