@@ -1,4 +1,4 @@
-//! The subset trimmer a second time, written from document 01 alone and as plainly as it.
+//! The subset trimmer a second time, written from document 01 and request 2026-01 alone and as plainly as they are.
 //! The four jobs are in `jobs`, the listing program's text in `text`, the broken rules in `mutants`.
 
 pub mod bench;
