@@ -28,5 +28,6 @@ pub mod ListingRight
 pub mod Paper
 pub mod DemandsHold
 pub mod Useless
+pub mod Misread
 pub mod Feed
 pub mod Promises
