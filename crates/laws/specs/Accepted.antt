@@ -1,18 +1,18 @@
 -- What an accepted file is: a chain of records of which none is refused, and what such a record keeps.
-use Prim.Native.Nat.{ℕ, zero, suc, _+_, _-_, _*_, _/_, _≤_, _<_}
-use mathlib.Core.Path.{_≡_, refl, sym, ap, subst, subst⁻¹, subst₂, _∙_}
+use Prim.Native.Nat.{ℕ, zero, suc, _+_, _≤_}
+use mathlib.Core.Path.{_≡_, refl, sym, subst, _∙_}
 use mathlib.Core.Logic.{_⊎_, inl, inr}
 use mathlib.Core.Bool.{Bool, true, false, not, _&&_, _||_, cond, true≢false}
 use mathlib.Core.Option.{Option, none, some}
-use mathlib.Core.List.{List, [], _∷_, map}
+use mathlib.Core.List.{List, [], _∷_}
 use lib.ListN.{length}
-use lib.Dec.{ltb, leb, eqb}
+use lib.Dec.{ltb, eqb}
 use borrow.Author.Tests.{ltb-false, eq-eqb, ne-eqb}
 use native.Mathlib.Omega.{arith}
 use Rattle.meaning.specs.Clauses.{any}
 use Rattle.meaning.specs.Meaning.{Problem}
 use Rattle.meaning.specs.File
-use Rattle.meaning.specs.File.{Reader, Refusal, Rule, Span, Walked, refused, records, Reading, accepted, rejected, read, walked, walk, at-start, past, kind-at, row-at, body-at, body-length, body-literals, body-names, span-at, record-rules, first-wrong, kind-wrong, offends, two-at, unless-refused, unless-end, and-before, problem-of, reading-of, refuse-if, file-most}
+use Rattle.meaning.specs.File.{Reader, Refusal, Rule, Span, Walked, refused, records, accepted, rejected, read, walked, walk, at-start, past, kind-at, row-at, body-at, body-length, body-literals, body-names, span-at, record-rules, first-wrong, kind-wrong, offends, two-at, unless-refused, unless-end, and-before, problem-of, reading-of, refuse-if, file-most}
 use Rattle.laws.specs.Basics.{true-of-not, not-of-false}
 
 pub refused-is-not-records : {r : Refusal} {ss : List Span} → refused r ≡ records ss → ⊥

@@ -1,10 +1,9 @@
 -- Bad states, for a problem whose clauses name the variables of their kind alone: Bad looks at the present moment, with any inputs and helpers.
-use Prim.Native.Nat.{ℕ}
-use mathlib.Core.Path.{_≡_, refl, sym, ap, _∙_}
+use mathlib.Core.Path.{_≡_, sym, ap, _∙_}
 use mathlib.Core.Logic.{_↔_}
 use mathlib.Core.Bool.{true, false}
-use mathlib.Core.List.{List, []}
-use Rattle.meaning.specs.Clauses.{Clause, Values, all, holds, all-hold}
+use mathlib.Core.List.{[]}
+use Rattle.meaning.specs.Clauses.{Values, all, all-hold}
 use Rattle.meaning.specs.Meaning.{Problem, State, moment, BadState}
 use Rattle.laws.specs.Within.{UpTo, Within, Present, WellFormed}
 use Rattle.laws.specs.Moment.{all-agree, moment-now, moment-present}

@@ -1,11 +1,10 @@
 -- Two programs that misread Bad where it looks at inputs (request 2026-01), each refuted by demand 2 on the small loader.
-use Prim.Native.Nat.{ℕ, _+_}
+use Prim.Native.Nat.{ℕ}
 use native.Mathlib.Nat.{le-refl}
 use mathlib.Core.Path.{_≡_, refl, ap, subst}
-use mathlib.Core.Logic.{_↔_}
 use mathlib.Core.Bool.{Bool, true, false, cond}
 use mathlib.Core.List.{List, [], _∷_}
-use lib.ListN.{length, replicate}
+use lib.ListN.{replicate}
 use lib.Dec.{ltb}
 use Rattle.meaning.specs.Clauses
 use Rattle.meaning.specs.Clauses.{variable, any}

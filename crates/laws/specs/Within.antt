@@ -1,9 +1,9 @@
 -- Clauses whose variables are of a sort, and problems whose every clause names those of its kind alone: what an accepted file gives (see
 -- Accepted).
-use Prim.Native.Nat.{ℕ, zero, suc, _+_, _≤_, _<_}
+use Prim.Native.Nat.{ℕ, _+_, _≤_}
 use mathlib.Core.Logic.{_⊎_}
 use mathlib.Core.List.{List, [], _∷_}
-use Rattle.meaning.specs.Clauses.{Literal, Clause, variable}
+use Rattle.meaning.specs.Clauses.{Clause, variable}
 use Rattle.meaning.specs.Meaning.{Problem}
 use Rattle.meaning.specs.Rules.{width}
 

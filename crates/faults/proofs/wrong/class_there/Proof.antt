@@ -1,5 +1,5 @@
 -- `faults::wrong::class_there` meets its contract: by the table of kinds, past whose end there is none. Assumes nothing.
-use mathlib.Core.Path.{_≡_, sym, ap}
+use mathlib.Core.Path.{sym, ap}
 use lib.ListN.{List·getD-eq-default}
 use Rattle.meaning.specs.File.{Kind, kind-row, kind-table, no-kind}
 use borrow.Author.Needs.{needs}
