@@ -2,17 +2,17 @@
 use Prim.Native.Nat.{ℕ, zero, suc, _+_, _-_, _*_, _≤_, _<_}
 use native.Mathlib.Omega.{arith}
 use mathlib.Core.Path.{_≡_, refl, sym, ap, subst, _∙_}
-use mathlib.Core.Bool.{Bool, true, false, true≢false, cond}
+use mathlib.Core.Bool.{Bool, true, false, cond}
 use mathlib.Core.Option.{Option, none, some}
 use mathlib.Core.List.{List, [], _∷_}
 use lib.ListN.{length}
 use lib.Dec.{eqb, ltb}
-use borrow.Author.Tests.{ltb-false}
+use borrow.Author.Tests.{ltb-true, ltb-false}
 use Rattle.meaning.specs.Clauses.{Literal, any}
 use Rattle.meaning.specs.File
 use Rattle.meaning.specs.File.{Reader, Refusal, Rule, Walked, refused, records, Span, two-at, literals, literal-count, offends, before-offence, first-wrong, record-rules, kind-at, same-kind, file-most}
 use Rattle.laws.specs.Accepted.{kept}
-use Rattle.problem.specs.Offences.{length-literals}
+use Rattle.problem.specs.Offences.{length-literals, any-offends}
 use Rattle.problem.specs.Steps.{head-stops, literals-fit}
 use Rattle.format.specs.Section.{next-record}
 use Rattle.faults.specs.Places.{kind-there, past, walk, start-around, around}
@@ -22,17 +22,8 @@ use Rattle.faults.specs.declared.places.Spot.{Spot}
 -- ---- a refusal's place lies in its record
 
 -- the first literal that offends is one of the literals
-offence-by : (may : ℕ → Bool) (l : Literal) (ls : List Literal) (b : Bool) → offends may l ≡ b
-    → (any (offends may) ls ≡ true → before-offence may ls < length ls)
-    → any (offends may) (l ∷ ls) ≡ true → before-offence may (l ∷ ls) < length (l ∷ ls)
-unfolding any before-offence
-offence-by may l ls true t later e = rw t (omega arith)
-offence-by may l ls false t later e = rw t (omega (arith, later (rw t at e)))
-
 offence-before : (may : ℕ → Bool) (ls : List Literal) → any (offends may) ls ≡ true → before-offence may ls < length ls
-unfolding any
-offence-before may [] e = absurd (true≢false (sym e))
-offence-before may (l ∷ ls) e = offence-by may l ls (offends may l) refl (offence-before may ls) e
+offence-before may ls e = ltb-true (before-offence may ls) (length ls) (sym (any-offends may ls) ∙ e)
 
 -- every rule that is broken has a place of a sort; so has the first
 abbrev Each : (ℕ → Type 0) → List Rule → Type 0
