@@ -27,7 +27,7 @@
  * Refusals 1 to 9 and 11 write nothing but the report; so does 10, but for a listing, where 10 and 12 keep the rows already found. The budget
  * bounds the decisions of the whole call, 0 to 4,294,967,295. docs/FORMAT.md says what a problem file is. Init clauses and lemmas name state
  * variables (1 to n), Tr clauses every variable (1 to 2n+m), and Bad clauses all but next values (1 to n, 2n+1 to 2n+m): a state is bad if some
- * values of inputs and helpers satisfy all Bad clauses.
+ * values of inputs and helpers satisfy all Bad clauses. Tr says nothing of Bad: what defines a helper that Bad names stands in Bad again.
  */
 #ifndef TRIM_H
 #define TRIM_H

@@ -74,7 +74,7 @@ fn alone() -> Vec<Refused> {
         refused("6-zero", "literal 0 in the second place", &[&head(), &record(INIT, &[1, 0]), &end()], 6, 14),
         refused("6-large", "Init with a next value", &[&head(), &record(INIT, &[2]), &end()], 6, 12),
         refused("6-least", "literal -32768 (M)", &[&head(), &record(TR, &[-32768]), &end()], 6, 12),
-        refused("6-two", "two bad literals: the first counts", &[&head(), &record(BAD, &[1, -2, 0]), &end()], 6, 14),
+        refused("6-two", "two literals that offend: the first counts", &[&head(), &record(BAD, &[1, -2, 0]), &end()], 6, 14),
         refused("7-lemmas", "129 lemmas (M)", &[&full_of_lemmas(), &record(LEMMA, &[1]), &end()], 7, 776),
         refused("7-clauses", "4,097 clauses", &[&full_of_clauses(), &record(BAD, &[]), &end()], 7, 16_392),
         refused("8", "L with one byte more", &[&l, &[0]], 8, 46),

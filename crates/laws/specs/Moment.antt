@@ -1,4 +1,4 @@
--- Where clauses hold: only the variables in range count, a denied clause fails, and what a moment gives each variable.
+-- Where clauses hold: only the variables that they name count, a denied clause fails, and what a moment gives each variable.
 use Prim.Native.Nat.{ℕ, _+_, _-_, _≤_, _<_}
 use native.Mathlib.Omega.{arith}
 use mathlib.Core.Path.{_≡_, refl, ap}

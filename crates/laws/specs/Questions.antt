@@ -1,4 +1,4 @@
--- What an unsatisfiable question means, for a problem whose clauses are in range, and that a larger set keeps it unsatisfiable.
+-- What an unsatisfiable question means, for a problem whose clauses name the variables of their kind, and that a larger set keeps it unsatisfiable.
 use Prim.Native.Nat.{ℕ, zero, suc, _+_, _≤_}
 use native.Mathlib.Omega.{arith}
 use mathlib.Core.Path.{_≡_, refl, sym, ap, _∙_, fun-ext}
@@ -18,7 +18,7 @@ use Rattle.laws.specs.SearchRight.{searched-no}
 use Rattle.laws.specs.Moment.{clause-agree, all-agree, denied-fails, holds-next, moment-now, moment-next, moment-of}
 use Rattle.laws.specs.BadStates.{bad-any-next}
 
--- the clauses of a question are in range
+-- the clauses of a question name variables in 1..2n+m
 
 pub denied-within : (most : ℕ) (c : Clause) → ClauseWithin most c → Within most (denied c)
 unfolding denied

@@ -1,5 +1,5 @@
 -- Clauses whose variables are of a sort, and problems whose every clause names those of its kind alone: what an accepted file gives (see
--- Accepted).
+-- Named).
 use Prim.Native.Nat.{ℕ, _+_, _≤_}
 use mathlib.Core.Logic.{_⊎_}
 use mathlib.Core.List.{List, [], _∷_}

@@ -6,8 +6,9 @@ use mathlib.Core.Bool.{Bool, true, false, not, _&&_, _||_, true≢false}
 use mathlib.Core.List.{List, [], _∷_, _++_}
 use lib.ListN.{length}
 use Rattle.meaning.specs.Clauses
+use Rattle.meaning.specs.Clauses.{Values, all-hold}
 use Rattle.meaning.specs.Meaning
-use Rattle.meaning.specs.Meaning.{State, Marks, BadState, has, Part, Safe, Inductive, Minimal}
+use Rattle.meaning.specs.Meaning.{State, moment, Marks, BadState, has, Part, Safe, Inductive, Minimal}
 use Rattle.meaning.specs.Cases
 use Rattle.meaning.specs.Cases.{case-A, case-B, case-J, case-checksum}
 
@@ -114,6 +115,10 @@ J-all-not-minimal least = least .2 J-third refl (J-part, (0, refl, refl)) (J-thi
 pub checksum-bad : BadState case-checksum (three true true true)
 unfolding three case-checksum Cases.applied-if Cases.unit Meaning.moment Clauses.all-hold Clauses.holds Clauses.any Clauses.all Clauses.is-true
 checksum-bad = (three false false true, refl)
+
+pub checksum-not-for-all : ((x : Values) → all-hold (moment 3 (three true true true) (three true true true) x) (case-checksum .bad) ≡ true) → ⊥
+unfolding three case-checksum Cases.applied-if Cases.unit moment all-hold Clauses.holds Clauses.any Clauses.all Clauses.is-true
+checksum-not-for-all every = true≢false (sym (every (three true false true)))
 
 -- with a key off it is not bad, whatever the inputs are
 pub checksum-not-bad : BadState case-checksum (three true true false) → ⊥
