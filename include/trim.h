@@ -22,10 +22,12 @@
  *    3  a kind out of place                         9  fewer than k bytes lent (trim_largest, trim_one)
  *    4  a body length not allowed for its kind     10  a decision wanted over the budget
  *    5  n or m out of range                        11  the largest inductive set isn't safe: no subset of these candidates would do
- *    6  literal 0, or a variable too large         12  a row that doesn't fit (trim_list)
+ *    6  literal 0, or a variable not for its kind  12  a row that doesn't fit (trim_list)
  *
  * Refusals 1 to 9 and 11 write nothing but the report; so does 10, but for a listing, where 10 and 12 keep the rows already found. The budget
- * bounds the decisions of the whole call, 0 to 4,294,967,295. docs/FORMAT.md says what a problem file is.
+ * bounds the decisions of the whole call, 0 to 4,294,967,295. docs/FORMAT.md says what a problem file is. Init clauses and lemmas name state
+ * variables (1 to n), Tr clauses every variable (1 to 2n+m), and Bad clauses all but next values (1 to n, 2n+1 to 2n+m): a state is bad if some
+ * values of inputs and helpers satisfy all Bad clauses. Tr says nothing of Bad: what defines a helper that Bad names stands in Bad again.
  */
 #ifndef TRIM_H
 #define TRIM_H

@@ -1,5 +1,5 @@
-//! The bench cases of document 01 and two counted cases of an outside program, as problems with a name
-//! and a line that says what each is.
+//! The bench cases of document 01, two counted cases of an outside program and one of request 2026-01, as problems
+//! with a name and a line that says what each is.
 
 use crate::file::Problem;
 use crate::notation::problem;
@@ -21,7 +21,7 @@ impl Case {
 }
 
 /// Cases C and D are case B with a small budget and a small space; M is among the refusals.
-pub const CASES: [Case; 12] = [
+pub const CASES: [Case; 13] = [
     Case {
         name: "A",
         line: "two latches that swap values; each lemma needs the other",
@@ -84,6 +84,16 @@ pub const CASES: [Case; 12] = [
         name: "Q",
         line: "no Tr and a largest set that is not safe, counted by an outside program",
         text: "n=2 m=2; Init (-2 -2)(-1); Bad (1); lemmas (1),(-1),(2 -1)",
+    },
+    Case {
+        name: "checksum",
+        line: "a loader that may apply a file only while the checksum line, an input, is high, unless both service \
+               keys are on: Bad is 'applied while the checksum line is low'",
+        text: "n=3 m=3; Init (-1)(-2)(-3); \
+               Tr (-9 1)(-9 7 2)(-9 7 3)(9 -1 -7)(9 -1 -2 -3) (-4 8 1)(-4 8 -9)(4 -8)(4 -1 9) (-5 3)(5 -3) \
+               (-6 2)(6 -2); \
+               Bad (-9 1)(-9 7 2)(-9 7 3)(9 -1 -7)(9 -1 -2 -3) (9) (-7); \
+               lemmas (-1 -2 -3),(-2),(-3),(-1),(-2 -3),(1)",
     },
 ];
 

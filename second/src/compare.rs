@@ -3,6 +3,7 @@
 use crate::bench::CASES;
 use crate::damage::damaged;
 use crate::families::FAMILIES;
+use crate::file::read;
 use crate::jobs::Job;
 use crate::limits::{fixed, random_large, Source};
 use crate::mutants::Rules;
@@ -17,18 +18,19 @@ const CAP: u32 = 2_000;
 const FIXED_TURN: usize = 200;
 const MEDIUM: Sizes = Sizes { n: 6, m: 5, clauses: 12, lemmas: 6, literals: 5 };
 
-/// What a comparison found: the calls made, how often each number was the answer, and the first
-/// difference made small.
+/// What a comparison found: the calls made, how often each number was the answer, for each job the calls with an
+/// accepted file whose Bad names an input or helper, and the first difference made small.
 pub struct Found {
     pub calls: usize,
     pub numbers: [usize; 13],
+    pub bad_inputs: [usize; Job::ALL.len()],
     pub difference: Option<String>,
 }
 
 /// Makes at least so many calls to both subjects, or fewer if one shows a difference.
 pub fn compare(one: &dyn Subject, other: &dyn Subject, calls: usize, seed: u64) -> Found {
     let mut random = Random(seed);
-    let mut found = Found { calls: 0, numbers: [0; 13], difference: None };
+    let mut found = Found { calls: 0, numbers: [0; 13], bad_inputs: [0; Job::ALL.len()], difference: None };
     let mut waiting: Vec<Source> = Vec::new();
     for turn in 0.. {
         if found.calls >= calls {
@@ -39,10 +41,12 @@ pub fn compare(one: &dyn Subject, other: &dyn Subject, calls: usize, seed: u64) 
             waiting.extend(refusals().into_iter().map(|refused| plain(refused.file)));
         }
         let source = waiting.pop().unwrap_or_else(|| source(&mut random));
+        let bad_inputs = bad_names_inputs(&source.file);
         for call in calls_with(&source, &mut random) {
             let outcome = call.outcome(one);
             found.calls += 1;
             found.numbers[(outcome.report.number as usize).min(12)] += 1;
+            found.bad_inputs[call.job as usize] += bad_inputs as usize;
             if outcome != call.outcome(other) {
                 found.difference = Some(explain(call, one, other));
                 return found;
@@ -50,6 +54,14 @@ pub fn compare(one: &dyn Subject, other: &dyn Subject, calls: usize, seed: u64) 
         }
     }
     found
+}
+
+/// Whether the file is accepted and a literal of its Bad is over 2n.
+fn bad_names_inputs(file: &[u8]) -> bool {
+    let Ok(problem) = read(file, Rules::TRUE) else {
+        return false;
+    };
+    problem.bad.iter().flatten().any(|literal| literal.unsigned_abs() as usize > 2 * problem.n)
 }
 
 /// The difference on a small file, with both answers.
@@ -140,6 +152,10 @@ impl fmt::Display for Found {
         write!(out, "{} calls;", self.calls)?;
         for (number, times) in self.numbers.iter().enumerate() {
             write!(out, " {number}: {times}")?;
+        }
+        write!(out, "; inputs in Bad:")?;
+        for (job, times) in Job::ALL.into_iter().zip(self.bad_inputs) {
+            write!(out, " {} {times}", job.name())?;
         }
         match &self.difference {
             None => write!(out, "\nno difference"),

@@ -36,11 +36,21 @@ impl Problem {
         self.init.len() + self.tr.len() + self.bad.len() + self.lemmas.len()
     }
 
-    fn largest_variable(&self, kind: usize) -> usize {
-        match TABLE[kind - 1].variables {
-            Variables::None => 0,
-            Variables::State => self.n,
-            Variables::All => self.variables(),
+    /// The variables that a clause of this kind may name, by rising number.
+    pub fn named_by(&self, kind: usize) -> Vec<usize> {
+        (1..=self.variables()).filter(|&variable| self.is_in(class(kind, Rules::TRUE), variable)).collect()
+    }
+
+    /// 0 is in no class.
+    fn is_in(&self, class: Variables, variable: usize) -> bool {
+        let state = (1..=self.n).contains(&variable);
+        let input = (2 * self.n + 1..=self.variables()).contains(&variable);
+        match class {
+            Variables::None => false,
+            Variables::State => state,
+            Variables::StateAndLastInput => state || (input && variable == self.variables()),
+            Variables::StateAndInputs => state || input,
+            Variables::All => (1..=self.variables()).contains(&variable),
         }
     }
 
@@ -61,9 +71,14 @@ pub const BAD: usize = 4;
 pub const LEMMA: usize = 5;
 pub const END: usize = 6;
 
+/// The classes of variables that a kind may name. Only `All` has the next values; only a mutant has
+/// `StateAndLastInput`.
+#[derive(Clone, Copy)]
 enum Variables {
     None,
     State,
+    StateAndLastInput,
+    StateAndInputs,
     All,
 }
 
@@ -78,10 +93,20 @@ const TABLE: [Kind; 6] = [
     Kind { shortest: 4, longest: 4, variables: Variables::None },
     Kind { shortest: 0, longest: 128, variables: Variables::State },
     Kind { shortest: 0, longest: 128, variables: Variables::All },
-    Kind { shortest: 0, longest: 128, variables: Variables::State },
+    Kind { shortest: 0, longest: 128, variables: Variables::StateAndInputs },
     Kind { shortest: 0, longest: 128, variables: Variables::State },
     Kind { shortest: 0, longest: 0, variables: Variables::None },
 ];
+
+/// The class of a kind, as the table has it; mutants have another for Bad.
+fn class(kind: usize, rules: Rules) -> Variables {
+    match rules {
+        Rules::BadNextLetThrough if kind == BAD => Variables::All,
+        Rules::BadInputsRefused if kind == BAD => Variables::State,
+        Rules::BadLastInputOnly if kind == BAD => Variables::StateAndLastInput,
+        _ => TABLE[kind - 1].variables,
+    }
+}
 
 /// A refusal of the file: its number and its place.
 #[derive(Clone, Copy, PartialEq, Eq, Debug)]
@@ -135,13 +160,13 @@ impl Record<'_> {
         Err(Refusal { number, place: self.place })
     }
 
-    fn test(&self, test: Test, problem: &Problem) -> Result<(), Refusal> {
+    fn test(&self, test: Test, problem: &Problem, rules: Rules) -> Result<(), Refusal> {
         match test {
             Test::Kind if !self.kind_is_allowed() => self.refuse(3),
             Test::Length if !self.length_is_allowed() => self.refuse(4),
             Test::Body if self.body() + self.length > self.bytes.len() => self.refuse(2),
             Test::Count if !self.count_is_allowed(problem) => self.refuse(7),
-            Test::Content => self.content(problem),
+            Test::Content => self.content(problem, rules),
             _ => Ok(()),
         }
     }
@@ -167,16 +192,16 @@ impl Record<'_> {
         !too_many_clauses && !too_many_lemmas
     }
 
-    fn content(&self, problem: &Problem) -> Result<(), Refusal> {
+    fn content(&self, problem: &Problem, rules: Rules) -> Result<(), Refusal> {
         if self.kind == HEAD {
             let n = two_bytes(self.bytes, self.body()) as usize;
             let m = two_bytes(self.bytes, self.body() + 2) as usize;
             let allowed = (1..=Problem::STATE).contains(&n) && m <= Problem::HELPERS;
             return if allowed { Ok(()) } else { self.refuse(5) };
         }
-        let largest = problem.largest_variable(self.kind);
+        let class = class(self.kind, rules);
         for (at, literal) in self.literals().into_iter().enumerate() {
-            if literal == 0 || literal.unsigned_abs() as usize > largest {
+            if !problem.is_in(class, literal.unsigned_abs() as usize) {
                 return Err(Refusal { number: 6, place: self.body() + 2 * at });
             }
         }
@@ -222,7 +247,7 @@ fn read_records(bytes: &[u8], rules: Rules) -> Result<(Problem, usize), Refusal>
         let kind = two_bytes(bytes, place + 2) as usize;
         let record = Record { bytes, place, length, kind, before };
         for test in order(rules) {
-            record.test(test, &problem)?;
+            record.test(test, &problem, rules)?;
         }
         place = record.body() + length;
         before = kind;

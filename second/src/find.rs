@@ -1,18 +1,22 @@
 //! Finds, for a mutant, a small call that tells it apart from the true rules.
 
+use crate::file::Problem;
 use crate::jobs::Job;
 use crate::mutants::Rules;
-use crate::random::{problem, Random, Sizes, SMALL};
+use crate::random::{Random, Sizes, SMALL};
 use crate::shrink::shrink;
 use crate::subject::{Call, Second};
 
-/// The call found, made small; nothing if none of so many random files shows a difference.
-pub fn telling_call(mutant: Rules, files: usize, seed: u64) -> Option<Call> {
+/// Makes a random problem.
+pub type Maker = fn(&mut Random, Sizes) -> Problem;
+
+/// The call found, made small; nothing if none of so many files that are made shows a difference.
+pub fn telling_call(mutant: Rules, make: Maker, files: usize, seed: u64) -> Option<Call> {
     let shows = |call: &Call| call.differs(&Second(Rules::TRUE), &Second(mutant));
     let mut random = Random(seed);
     for _ in 0..files {
         let sizes = sizes(&mut random);
-        let problem = problem(&mut random, sizes);
+        let problem = make(&mut random, sizes);
         let (file, k) = (problem.to_bytes(), problem.k());
         for job in [Job::Largest, Job::One, Job::List] {
             for (budget, space) in [(u32::MAX, 8 * k), (2, 8 * k), (u32::MAX, k)] {

@@ -1,4 +1,4 @@
-//! The subset trimmer a second time, written from document 01 alone and as plainly as it.
+//! The subset trimmer a second time, written from document 01 and request 2026-01 alone and as plainly as they are.
 //! The four jobs are in `jobs`, the listing program's text in `text`, the broken rules in `mutants`.
 
 pub mod bench;
@@ -13,6 +13,7 @@ pub mod library;
 pub mod limits;
 pub mod listing;
 pub mod loader;
+pub mod misread;
 pub mod mutants;
 pub mod notation;
 pub mod questions;

@@ -1,6 +1,6 @@
 //! Files at the limits of the format, and the real ones, each with a budget that keeps a call on it short.
 
-use crate::file::Problem;
+use crate::file::{Problem, BAD};
 use crate::jobs::Job;
 use crate::notation::problem;
 use crate::random::{self, Random, Sizes};
@@ -28,6 +28,13 @@ pub fn most_of_all() -> Problem {
 pub fn deep_search() -> Problem {
     let mut deep = problem("n=96 m=320; Init (1); lemmas (1 1)");
     deep.tr = (1..=512).filter(|&v| v != 97).map(|v| vec![v, v]).collect();
+    deep
+}
+
+/// A safety question 416 levels deep: every variable that Bad may name takes a decision.
+pub fn deep_safety() -> Problem {
+    let mut deep = problem("n=96 m=320");
+    deep.bad = deep.named_by(BAD).into_iter().map(|v| vec![v as i16, v as i16]).collect();
     deep
 }
 
@@ -79,6 +86,7 @@ pub fn fixed() -> Vec<Source> {
         with(most_of_all(), 4, MARKED),
         with(over, 0, &Job::ALL),
         with(deep_search(), 2_000, &Job::ALL),
+        with(deep_safety(), 2_000, &Job::ALL),
         with(deep_listing(), 200, LISTED),
         with(most_clauses(), 6, &Job::ALL),
         with(too_many, 0, &Job::ALL),

@@ -1,4 +1,5 @@
-//! The rules a call goes by: the true ones of document 01, or a mutant that breaks just one of them.
+//! The rules a call goes by: the true ones of document 01 and request 2026-01, or a mutant that breaks just one of
+//! them.
 
 /// The true rules, or the one rule that is broken. Every part is handed this value and asks it
 /// at the place where its own rule stands.
@@ -66,10 +67,17 @@ pub enum Rules {
     GoesOnAfterEnd,
     SpaceBeforeLaterBytes,
     SpaceAfterSearch,
+    // Inputs and helpers in Bad.
+    BadNextLetThrough,
+    BadInputsRefused,
+    BadLastInputOnly,
+    BadForAllInputs,
+    BadLastInputFree,
+    BadClauseByClause,
 }
 
 /// Each mutant with what it does instead of the rule.
-pub const MUTANTS: [(Rules, &str); 56] = [
+pub const MUTANTS: [(Rules, &str); 62] = [
     (Rules::SecondTryFree, "the second try of a decision is not counted"),
     (Rules::LastOpenClause, "a decision takes the last clause without a true literal"),
     (Rules::LastUnsetLiteral, "a decision takes the last unset literal of its clause"),
@@ -126,6 +134,12 @@ pub const MUTANTS: [(Rules, &str); 56] = [
     (Rules::GoesOnAfterEnd, "bytes after kind 6 are read as records"),
     (Rules::SpaceBeforeLaterBytes, "9 is tested before 8"),
     (Rules::SpaceAfterSearch, "9 is tested after the search"),
+    (Rules::BadNextLetThrough, "a next value in a Bad clause is let through"),
+    (Rules::BadInputsRefused, "inputs and helpers in a Bad clause are refused"),
+    (Rules::BadLastInputOnly, "of inputs and helpers a Bad clause may name only the last, 2n+m"),
+    (Rules::BadForAllInputs, "a state is bad if all values of inputs and helpers satisfy Bad"),
+    (Rules::BadLastInputFree, "in a safety question all inputs and helpers but the last are false"),
+    (Rules::BadClauseByClause, "each Bad clause may have its own values of inputs and helpers"),
 ];
 
 /// The mutants that no call can tell apart from the true rules, each with the reason.

@@ -1,6 +1,7 @@
 //! The three kinds of question, initiation, step and safety, each with its clauses in the paper's order.
 
 use crate::file::{Clause, Problem};
+use crate::misread;
 use crate::mutants::Rules;
 use crate::search::{Count, Search, Spent};
 use crate::sets::{positions_if_reversed, Set};
@@ -47,12 +48,14 @@ impl<'a> Questions<'a> {
     /// Safety of S: the lemmas of S by position, then Bad.
     pub fn safety(&mut self, set: &Set) -> Result<bool, Spent> {
         let lemmas = self.lemmas(set, Rules::LemmasReversedInSafety);
+        let misread = misread::safety(self.problem, &lemmas, self.rules);
         let bad = self.list(&self.problem.bad, Rules::BadReversed);
         let mut parts = vec![lemmas, bad];
         if self.rules.breaks(Rules::BadBeforeLemmas) {
             parts.reverse();
         }
-        self.ask(&parts)
+        let answer = self.ask(&parts)?;
+        Ok(misread.unwrap_or(answer))
     }
 
     /// A list of the file in its order.

@@ -1,6 +1,6 @@
 //! Random numbers from a seed (splitmix64), and random problems with every oddity the format allows.
 
-use crate::file::{Clause, Problem};
+use crate::file::{Clause, Problem, BAD, INIT, LEMMA, TR};
 
 pub struct Random(pub u64);
 
@@ -36,19 +36,29 @@ pub struct Sizes {
 
 pub const SMALL: Sizes = Sizes { n: 3, m: 2, clauses: 5, lemmas: 5, literals: 4 };
 
-/// A random problem: some kinds are left out, some clauses empty or equal, some literals repeated.
+/// A random problem: as the next one, and in about half of those with inputs and helpers Bad names them.
 pub fn problem(random: &mut Random, sizes: Sizes) -> Problem {
+    let mut result = problem_with_state_bad(random, sizes);
+    if result.m > 0 && random.once_in(2) {
+        name_inputs_in_bad(random, &mut result);
+    }
+    result
+}
+
+/// A random problem: some kinds are left out, some clauses empty or equal, some literals repeated. Bad names the
+/// state alone.
+pub fn problem_with_state_bad(random: &mut Random, sizes: Sizes) -> Problem {
     let n = 1 + random.below(sizes.n);
     let m = random.below(sizes.m + 1);
     let mut result = Problem { n, m, ..Problem::default() };
     if !random.once_in(10) {
-        result.init = init(random, n, sizes);
+        result.init = init(random, &result, sizes);
     }
     if !random.once_in(10) {
-        result.tr = tr(random, n, m, sizes);
+        result.tr = tr(random, &result, sizes);
     }
     let count = random.below(sizes.lemmas + 1);
-    result.lemmas = clauses(random, n, count, 1 + sizes.literals / 2);
+    result.lemmas = clauses(random, &result.named_by(LEMMA), count, 1 + sizes.literals / 2);
     lean_to_init(random, &mut result);
     if !random.once_in(12) {
         result.bad = bad(random, &result);
@@ -77,15 +87,15 @@ fn lean_to_init(random: &mut Random, problem: &mut Problem) {
     }
 }
 
-/// Bad: mostly clauses that lemmas speak against, else any clauses, or two that never hold together.
+/// Bad of the state: mostly clauses that lemmas speak against, else any clauses, or two that never hold together.
 fn bad(random: &mut Random, problem: &Problem) -> Vec<Clause> {
+    let state = problem.named_by(LEMMA);
     if random.once_in(12) {
-        let never = literal(random, problem.n);
-        return vec![vec![never, never], vec![-never, -never]];
+        return never(literal(random, &state)).to_vec();
     }
     let count = 1 + random.below(3);
     if problem.k() == 0 || random.once_in(3) {
-        return clauses(random, problem.n, count, 2);
+        return clauses(random, &state, count, 2);
     }
     let mut result = Vec::new();
     for _ in 0..count {
@@ -97,27 +107,93 @@ fn bad(random: &mut Random, problem: &Problem) -> Vec<Clause> {
     result
 }
 
+/// Two clauses that never hold together.
+fn never(literal: i16) -> [Clause; 2] {
+    [vec![literal, literal], vec![-literal, -literal]]
+}
+
+/// Puts inputs and helpers into Bad: into the clauses it has, in clauses of their own, as a gate, in two that never
+/// hold together, or in clauses of any literals.
+fn name_inputs_in_bad(random: &mut Random, problem: &mut Problem) {
+    let named = problem.named_by(BAD);
+    let inputs = &named[problem.n..];
+    match random.below(12) {
+        0..=3 => mix_in(random, inputs, &mut problem.bad),
+        4..=5 => add_anywhere(random, inputs, &mut problem.bad),
+        6..=7 => {
+            mix_in(random, inputs, &mut problem.bad);
+            add_anywhere(random, inputs, &mut problem.bad);
+        }
+        8..=9 => problem.bad = gate(random, inputs, &named, &problem.bad),
+        10 => problem.bad.extend(never(literal(random, inputs))),
+        _ => {
+            let count = 1 + random.below(4);
+            problem.bad = clauses(random, &named, count, 3);
+        }
+    }
+}
+
+/// Puts literals of inputs at any place of most clauses, some of them twice or with their negation.
+fn mix_in(random: &mut Random, inputs: &[usize], bad: &mut [Clause]) {
+    for clause in bad {
+        if random.once_in(4) {
+            continue;
+        }
+        let input = literal(random, inputs);
+        let more = match random.below(8) {
+            0 => vec![input, input],
+            1 => vec![input, -input],
+            _ => vec![input],
+        };
+        for next in more {
+            let place = random.below(clause.len() + 1);
+            clause.insert(place, next);
+        }
+    }
+}
+
+/// Puts clauses of inputs alone at any place of Bad.
+fn add_anywhere(random: &mut Random, inputs: &[usize], bad: &mut Vec<Clause>) {
+    let count = 1 + random.below(2);
+    for clause in clauses(random, inputs, count, 2) {
+        let place = random.below(bad.len() + 1);
+        bad.insert(place, clause);
+    }
+}
+
+/// Bad as a circuit gives it: a gate of two literals, the first mostly one that Bad had, and the gate or its negation.
+fn gate(random: &mut Random, inputs: &[usize], named: &[usize], bad: &[Clause]) -> Vec<Clause> {
+    let gate = literal(random, inputs);
+    let had = bad.first().and_then(|clause| clause.first());
+    let a = had.copied().unwrap_or_else(|| literal(random, named));
+    let b = literal(random, named);
+    let output = if random.once_in(4) { -gate } else { gate };
+    vec![vec![-gate, a], vec![-gate, b], vec![gate, -a, -b], vec![output]]
+}
+
 /// Init: mostly one value for each of some state variables, else any clauses.
-fn init(random: &mut Random, n: usize, sizes: Sizes) -> Vec<Clause> {
+fn init(random: &mut Random, problem: &Problem, sizes: Sizes) -> Vec<Clause> {
+    let state = problem.named_by(INIT);
     if random.once_in(3) {
         let count = random.below(sizes.clauses + 1);
-        return clauses(random, n, count, sizes.literals);
+        return clauses(random, &state, count, sizes.literals);
     }
-    let known: Vec<usize> = (1..=n).filter(|_| !random.once_in(5)).collect();
+    let known: Vec<usize> = state.into_iter().filter(|_| !random.once_in(5)).collect();
     known.into_iter().map(|v| vec![signed(random, v)]).collect()
 }
 
 /// Tr: next values equal to a literal, or to it only where another holds, and a few clauses besides.
-fn tr(random: &mut Random, n: usize, m: usize, sizes: Sizes) -> Vec<Clause> {
-    let variables = 2 * n + m;
+fn tr(random: &mut Random, problem: &Problem, sizes: Sizes) -> Vec<Clause> {
+    let named = problem.named_by(TR);
+    let state = &named[..problem.n];
     let mut result = Vec::new();
     if !random.once_in(4) {
-        for v in 1..=n {
-            let next = (n + v) as i16;
-            let from = literal(random, n);
+        for v in state {
+            let next = (problem.n + v) as i16;
+            let from = literal(random, state);
             let mut pair = [vec![-next, from], vec![next, -from]];
             if random.once_in(3) {
-                let guard = literal(random, variables);
+                let guard = literal(random, &named);
                 pair.iter_mut().for_each(|clause| clause.push(guard));
             }
             result.extend(pair.into_iter().filter(|_| !random.once_in(9)));
@@ -125,12 +201,12 @@ fn tr(random: &mut Random, n: usize, m: usize, sizes: Sizes) -> Vec<Clause> {
     }
     let most = if result.is_empty() { sizes.clauses } else { sizes.clauses / 2 };
     let count = random.below(most + 1);
-    let more = clauses(random, variables, count, sizes.literals);
+    let more = clauses(random, &named, count, sizes.literals);
     result.extend(more);
     result
 }
 
-fn clauses(random: &mut Random, variables: usize, count: usize, literals: usize) -> Vec<Clause> {
+fn clauses(random: &mut Random, variables: &[usize], count: usize, literals: usize) -> Vec<Clause> {
     let mut result: Vec<Clause> = Vec::new();
     for _ in 0..count {
         let equal = !result.is_empty() && random.once_in(10);
@@ -140,7 +216,7 @@ fn clauses(random: &mut Random, variables: usize, count: usize, literals: usize)
     result
 }
 
-fn clause(random: &mut Random, variables: usize, literals: usize) -> Clause {
+fn clause(random: &mut Random, variables: &[usize], literals: usize) -> Clause {
     let length = if random.once_in(25) { 0 } else { 1 + random.below(literals) };
     let mut result = Clause::new();
     for _ in 0..length {
@@ -154,8 +230,8 @@ fn clause(random: &mut Random, variables: usize, literals: usize) -> Clause {
     result
 }
 
-fn literal(random: &mut Random, variables: usize) -> i16 {
-    let variable = 1 + random.below(variables);
+fn literal(random: &mut Random, variables: &[usize]) -> i16 {
+    let variable = variables[random.below(variables.len())];
     signed(random, variable)
 }
 

@@ -13,9 +13,11 @@ pub struct Refused {
     pub place: u64,
 }
 
-/// The whole collection: one fault alone, two in one record, two in two records, and long files.
+/// The whole collection: one fault alone, two in one record, two in two records, long files, and literals that a
+/// Bad clause may not hold.
 pub fn refusals() -> Vec<Refused> {
-    [alone(), in_one_record(), after_a_bad_head(), after_a_bad_clause(), over_size()].into_iter().flatten().collect()
+    let groups = [alone(), in_one_record(), after_a_bad_head(), after_a_bad_clause(), over_size()];
+    groups.into_iter().flatten().chain(around_bad()).collect()
 }
 
 fn refused(name: &'static str, line: &'static str, parts: &[&[u8]], number: u64, place: u64) -> Refused {
@@ -72,7 +74,7 @@ fn alone() -> Vec<Refused> {
         refused("6-zero", "literal 0 in the second place", &[&head(), &record(INIT, &[1, 0]), &end()], 6, 14),
         refused("6-large", "Init with a next value", &[&head(), &record(INIT, &[2]), &end()], 6, 12),
         refused("6-least", "literal -32768 (M)", &[&head(), &record(TR, &[-32768]), &end()], 6, 12),
-        refused("6-two", "two bad literals: the first counts", &[&head(), &record(BAD, &[1, -2, 0]), &end()], 6, 14),
+        refused("6-two", "two literals that offend: the first counts", &[&head(), &record(BAD, &[1, -2, 0]), &end()], 6, 14),
         refused("7-lemmas", "129 lemmas (M)", &[&full_of_lemmas(), &record(LEMMA, &[1]), &end()], 7, 776),
         refused("7-clauses", "4,097 clauses", &[&full_of_clauses(), &record(BAD, &[]), &end()], 7, 16_392),
         refused("8", "L with one byte more", &[&l, &[0]], 8, 46),
@@ -178,4 +180,25 @@ fn over_size() -> Vec<Refused> {
     ];
     let files = faults.into_iter().map(|(name, line, start)| (name, line, padded(start)));
     files.map(|(name, line, file)| Refused { name, line, file, number: 1, place: 0 }).collect()
+}
+
+/// Literals at each edge of what a Bad clause may name, mostly after one that passes; and inputs in the other two
+/// kinds that speak of the state.
+fn around_bad() -> Vec<Refused> {
+    let sized = |n, m, kind, clause: &[i16]| [record(HEAD, &[n, m]), record(kind, clause), end()].concat();
+    let with_inputs = |clause: &[i16]| sized(3, 2, BAD, clause);
+    let without = |clause: &[i16]| sized(2, 0, BAD, clause);
+    let faults: [(&'static str, &'static str, Vec<u8>, u64); 10] = [
+        ("6-bad-next-first", "Bad with n, then n+1", with_inputs(&[3, 4]), 14),
+        ("6-bad-next-last", "Bad with -(2n+1), then -2n", with_inputs(&[-7, -6]), 14),
+        ("6-bad-large", "Bad with 2n+m, then -(2n+m+1)", with_inputs(&[8, -9]), 14),
+        ("6-bad-zero", "Bad with -(2n+m), then 0", with_inputs(&[-8, 0]), 14),
+        ("6-bad-least", "Bad with 2n+1, then -32768", with_inputs(&[7, -32768]), 14),
+        ("6-bad-no-inputs-next-first", "m is 0, Bad with n, then n+1", without(&[2, 3]), 14),
+        ("6-bad-no-inputs-next-last", "m is 0, Bad with -2n", without(&[-4]), 12),
+        ("6-bad-no-inputs-large", "m is 0, Bad with 2n+1", without(&[5]), 12),
+        ("6-init-input", "Init with n, then 2n+1", sized(3, 2, INIT, &[3, 7]), 14),
+        ("6-lemma-input", "a lemma with -n, then -(2n+m)", sized(3, 2, LEMMA, &[-3, -8]), 14),
+    ];
+    faults.into_iter().map(|(name, line, file, place)| Refused { name, line, file, number: 6, place }).collect()
 }

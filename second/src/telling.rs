@@ -1,9 +1,10 @@
 //! For each mutant a stored file and a call with it that tells the mutant apart from the true rules.
 
 use crate::bench::case;
-use crate::find::telling_call;
+use crate::find::{telling_call, Maker};
 use crate::jobs::{Job, Report};
 use crate::mutants::{Rules, MUTANTS};
+use crate::random::{problem, problem_with_state_bad};
 use crate::refusals::refusals;
 use crate::subject::{Call, Outcome, Second};
 
@@ -35,11 +36,23 @@ fn telling(mutant: Rules) -> Telling {
         let call = Call { job: Job::Largest, file: case("Q").file(), budget: 0, space: 0 };
         return Telling { mutant, path: "Q.problem".to_string(), call };
     }
-    let call = telling_call(mutant, FILES, SEED).expect("some random file tells this mutant");
+    let call = telling_call(mutant, maker(mutant), FILES, SEED).expect("some random file tells this mutant");
     Telling { mutant, path: format!("mutants/{}.problem", mutant.name()), call }
 }
 
-/// The mutants of the order of refusals are told by a file of that collection.
+/// The mutants of inputs and helpers in Bad are told by a file where Bad names them, all others without.
+fn maker(mutant: Rules) -> Maker {
+    match mutant {
+        Rules::BadInputsRefused
+        | Rules::BadLastInputOnly
+        | Rules::BadForAllInputs
+        | Rules::BadLastInputFree
+        | Rules::BadClauseByClause => problem,
+        _ => problem_with_state_bad,
+    }
+}
+
+/// The mutants of the order of refusals, and one that lets a literal through, are told by a file of that collection.
 fn refusal_that_tells(mutant: Rules) -> Option<&'static str> {
     Some(match mutant {
         Rules::FileSizeLast => "1-before-3",
@@ -51,6 +64,7 @@ fn refusal_that_tells(mutant: Rules) -> Option<&'static str> {
         Rules::ContentLast => "6-then-3",
         Rules::GoesOnAfterEnd => "8-not-2",
         Rules::SpaceBeforeLaterBytes => "8",
+        Rules::BadNextLetThrough => "6-bad-next-first",
         _ => return None,
     })
 }

@@ -1,4 +1,5 @@
-//! Every value document 01 states of its bench cases A to K, and two counted cases of an outside program.
+//! Every value document 01 states of its bench cases A to K, two counted cases of an outside program, and the loader
+//! of request 2026-01 whose Bad looks at its checksum line.
 
 use second::bench::case;
 use second::jobs::{call, Job, Report};
@@ -140,6 +141,29 @@ fn q_counts_as_the_outside_program_does() {
     marked("Q", Job::Largest, &[0, 0, 0], 1);
     refused("Q", Job::One, LARGEST_BUDGET, 11, 1);
     refused("Q", Job::List, LARGEST_BUDGET, 11, 1);
+}
+
+#[test]
+fn checksum_is_safe_by_either_form_of_its_keys_lemma() {
+    marked("checksum", Job::Largest, &[1, 1, 1, 0, 1, 0], 0);
+    marked("checksum", Job::One, &[0, 0, 0, 0, 1, 0], 3);
+    listed("checksum", &[&[0, 1, 1, 0, 0, 0], &[0, 0, 0, 0, 1, 0]], 24);
+    refused("checksum", Job::One, 2, 10, 2);
+    assert_eq!(listing_text(&case("checksum").file()), "complete 2 24\n011000\n000010\n");
+}
+
+#[test]
+fn checksum_stopped_keeps_the_rows_found() {
+    for (budget, rows) in [(0, 0), (17, 0), (18, 1), (23, 1)] {
+        let (report, _) = done("checksum", Job::List, budget, 12);
+        assert_eq!(report, refusal(10, budget as u64, rows));
+    }
+    let (report, _) = done("checksum", Job::List, 24, 12);
+    assert_eq!(report, answer(24, 2));
+    for (space, decisions, rows) in [(0, 18, 0), (5, 18, 0), (6, 24, 1), (11, 24, 1)] {
+        let (report, _) = done("checksum", Job::List, LARGEST_BUDGET, space);
+        assert_eq!(report, refusal(12, decisions, rows));
+    }
 }
 
 #[test]

@@ -8,6 +8,8 @@ use std::io::{self, Write};
 
 const CALLS: usize = 100_000;
 const SEED: u64 = 20_261_115;
+/// The least calls of each job with an accepted file whose Bad names an input or helper.
+const BAD_INPUTS: usize = 1_000;
 
 /// Compares and prints the seed and what was found, past the capture of test output.
 fn compared(other: &dyn Subject) -> Found {
@@ -17,10 +19,16 @@ fn compared(other: &dyn Subject) -> Found {
     found
 }
 
+/// No difference in so many calls, and for each job enough of them where Bad names an input or helper.
+fn no_difference(found: &Found) {
+    assert!(found.calls >= CALLS && found.difference.is_none(), "{found}");
+    assert!(found.bad_inputs.iter().all(|&times| times >= BAD_INPUTS), "inputs in Bad are met often: {found}");
+}
+
 #[test]
 fn no_call_tells_this_program_from_itself() {
     let found = compared(&Second(Rules::TRUE));
-    assert!(found.calls >= CALLS && found.difference.is_none(), "{found}");
+    no_difference(&found);
     assert!(found.numbers.iter().all(|&times| times > 0), "every number is met: {found}");
 }
 
@@ -31,8 +39,7 @@ fn no_call_tells_the_library_from_this_program() {
         assert!(std::env::var_os("GATE").is_none(), "the gate names a driver");
         return;
     };
-    let found = compared(&library);
-    assert!(found.calls >= CALLS && found.difference.is_none(), "{found}");
+    no_difference(&compared(&library));
 }
 
 /// The limits of three faults need a long file: these mutants cannot be shown on a small one.

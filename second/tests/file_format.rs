@@ -1,7 +1,8 @@
-//! Case L byte by byte, the limits of case M and of the format both sides, and each file refusal.
+//! Case L byte by byte, the limits of case M and of the format both sides, what each kind may name, and
+//! each file refusal.
 
 use second::bench::case;
-use second::file::{read, Problem, Refusal};
+use second::file::{read, Problem, Refusal, BAD, END, HEAD, INIT, LEMMA, TR};
 use second::jobs::{check, Report};
 use second::mutants::Rules;
 use second::notation::problem;
@@ -72,12 +73,72 @@ fn m_the_literal_without_a_positive_is_refused() {
 
 #[test]
 fn variables_are_read_up_to_the_largest_of_their_kind() {
-    let largest = "n=2 m=3; Init (2 -2); Tr (7 -7); Bad (-2); lemmas (2)";
+    let largest = "n=2 m=3; Init (2 -2); Tr (7 -7); Bad (-2 7); lemmas (2)";
     assert_eq!(accepted(&problem(largest).to_bytes()), problem(largest));
     refused(&problem("n=2 m=3; Init (-3)").to_bytes(), 6, 12);
     refused(&problem("n=2 m=3; Tr (7)(-8)").to_bytes(), 6, 18);
     refused(&problem("n=2 m=3; Bad (3)").to_bytes(), 6, 12);
     refused(&problem("n=2 m=3; lemmas (1 3)").to_bytes(), 6, 14);
+}
+
+/// A file of these sizes whose only clause is of this kind.
+fn with_clause(n: i16, m: i16, kind: usize, clause: &[i16]) -> Vec<u8> {
+    [record(HEAD, &[n, m]), record(kind, clause), record(END, &[])].concat()
+}
+
+/// A literal that may stand in a clause of this kind is read; any other is refused at its place, first or second.
+fn named(n: i16, m: i16, kind: usize, literal: i16, allowed: bool) {
+    let alone = with_clause(n, m, kind, &[literal]);
+    let second = with_clause(n, m, kind, &[-1, literal]);
+    if allowed {
+        accepted(&alone);
+        accepted(&second);
+        return;
+    }
+    refused(&alone, 6, 12);
+    refused(&second, 6, 14);
+}
+
+#[test]
+fn bad_names_state_and_inputs_and_nothing_else() {
+    for (n, m) in [(1, 0), (2, 0), (1, 1), (2, 1), (3, 2), (2, 5), (96, 0), (96, 320)] {
+        for variable in 0..=2 * n + m + 2 {
+            let allowed = (1..=n).contains(&variable) || (2 * n + 1..=2 * n + m).contains(&variable);
+            named(n, m, BAD, variable, allowed);
+            named(n, m, BAD, -variable, allowed);
+        }
+        named(n, m, BAD, i16::MAX, false);
+        named(n, m, BAD, i16::MIN, false);
+    }
+}
+
+#[test]
+fn init_and_lemmas_name_the_state_alone_and_tr_all() {
+    for (n, m) in [(1, 0), (1, 1), (3, 2), (96, 320)] {
+        for variable in 0..=2 * n + m + 2 {
+            for kind in [INIT, LEMMA] {
+                named(n, m, kind, variable, (1..=n).contains(&variable));
+                named(n, m, kind, -variable, (1..=n).contains(&variable));
+            }
+            named(n, m, TR, variable, (1..=2 * n + m).contains(&variable));
+            named(n, m, TR, -variable, (1..=2 * n + m).contains(&variable));
+        }
+    }
+}
+
+#[test]
+fn the_table_says_what_the_reader_does() {
+    for (n, m) in [(1, 0), (3, 2)] {
+        let sizes = Problem { n: n as usize, m: m as usize, ..Problem::default() };
+        for kind in [INIT, TR, BAD, LEMMA] {
+            let is_read = |&variable: &usize| {
+                let file = with_clause(n, m, kind, &[variable as i16]);
+                read(&file, Rules::TRUE).is_ok()
+            };
+            let all_read: Vec<usize> = (0..=sizes.variables() + 2).filter(is_read).collect();
+            assert_eq!(sizes.named_by(kind), all_read);
+        }
+    }
 }
 
 #[test]

@@ -3,6 +3,7 @@
 use second::find::telling_call;
 use second::jobs::Job;
 use second::mutants::{Rules, MUTANTS, UNTOLD};
+use second::random::problem;
 use second::subject::{Call, Second};
 use second::telling::answer_line;
 use std::fs;
@@ -51,7 +52,7 @@ fn the_true_rules_give_the_stored_answers() {
 fn nothing_tells_the_others() {
     for (mutant, reason) in UNTOLD {
         assert!(!reason.is_empty());
-        assert_eq!(telling_call(mutant, 10_000, 11), None, "{}", mutant.name());
+        assert_eq!(telling_call(mutant, problem, 10_000, 11), None, "{}", mutant.name());
         for (_, call, _) in lines() {
             assert!(!call.differs(&Second(Rules::TRUE), &Second(mutant)), "{}", mutant.name());
         }

@@ -46,4 +46,5 @@ fn the_comparison_prints_its_seed_its_calls_and_what_it_found() {
     assert!(output.status.success(), "{text}");
     assert!(text.starts_with("seed 9\n"), "{text}");
     assert!(text.contains(" calls;") && text.contains("no difference"), "{text}");
+    assert!(text.contains("; inputs in Bad: check "), "{text}");
 }

@@ -3,26 +3,31 @@ use Prim.Native.Nat.{ℕ, _+_, _-_}
 use mathlib.Core.Bool.{cond}
 use mathlib.Core.List.{List, _++_}
 use lib.ListN.{length}
-use lib.Dec.{eqb, ltb}
+use lib.Dec.{eqb, ltb, leb}
 use Rattle.meaning.specs.Clauses.{variable}
-use Rattle.meaning.specs.File.{two-at, literal-at, file-most, n-most, m-most, clauses-most, lemmas-most}
+use Rattle.meaning.specs.File.{Class, nothing, state, present, every, kind-row, two-at, literal-at, file-most, n-most, m-most, clauses-most, lemmas-most}
 use Rattle.text.specs.Ascii.{ascii}
 use Rattle.text.specs.Filled.{filled}
 use Rattle.faults.specs.Places.{kind-there, around}
 use Rattle.faults.specs.declared.wrong.Fault.{Fault}
-use Rattle.faults.specs.declared.wrong.Fault.the-variants.{TooLong, HeadCut, BodyCut, KindOut, LengthOut, CountsOut, LiteralZero, NoState, NoVariable, ManyClauses, ManyLemmas, Behind, Unknown}
+use Rattle.faults.specs.declared.wrong.Fault.the-variants.{TooLong, HeadCut, BodyCut, KindOut, LengthOut, CountsOut, LiteralZero, NoState, NextValue, NoVariable, ManyClauses, ManyLemmas, Behind, Unknown}
 
 -- 2: of a head, or of a body, too few bytes are left
 unfoldable pub cut : List ℕ → ℕ → Fault
 cut file place = cond (ltb (length file - place) 4) (HeadCut (length file - place)) (BodyCut (two-at file place) (length file - place - 4))
 
--- 6: literal 0; or a variable too large: a Tr clause (kind 3) may name those up to 2n+m, and any other those up to n
+-- a variable that the class of a record does not name: it is none of the state, or a next value, or too large
+unfoldable pub unnamed : Class → ℕ → ℕ → ℕ → Fault
+unnamed nothing v n m = NoState v n
+unnamed state v n m = NoState v n
+unnamed present v n m = cond (leb v (n + n)) (NextValue v (v - n)) (NoVariable v n m (n + n + m))
+unnamed every v n m = NoVariable v n m (n + n + m)
+
+-- 6: literal 0; or a variable that the record around it may not name, by the table of kinds
 unfoldable pub literal-fault : List ℕ → ℕ → Fault
 literal-fault file place =
     cond (eqb (variable (literal-at file place)) 0) LiteralZero
-    (cond (eqb (around file place .kind) 3)
-    (NoVariable (variable (literal-at file place)) (two-at file 4) (two-at file 6) (two-at file 4 + two-at file 4 + two-at file 6))
-    (NoState (variable (literal-at file place)) (two-at file 4)))
+    (unnamed (kind-row (around file place .kind) .class) (variable (literal-at file place)) (two-at file 4) (two-at file 6))
 
 -- 7: a lemma (kind 5) with 128 lemmas before it, or else a clause too many
 unfoldable pub number-fault : List ℕ → ℕ → Fault
@@ -57,6 +62,8 @@ fault-text (CountsOut n m) =
     filled (ascii "# state variables and # inputs and helpers, ") n m 0 ++ filled (ascii "but a file has 1 to # and 0 to #\n") n-most m-most 0
 fault-text LiteralZero = filled (ascii "a literal 0, which names no variable\n") 0 0 0
 fault-text (NoState v n) = filled (ascii "variable #, but the file has # state variables\n") v n 0
+fault-text (NextValue v of) =
+    filled (ascii "variable # is the next value of state variable #, but only state variables, inputs and helpers may stand here\n") v of 0
 fault-text (NoVariable v n m most) =
     filled (ascii "variable #, but the file has 2*#+#") v n m ++ filled (ascii " = # variables\n") most 0 0
 fault-text ManyClauses = filled (ascii "more than # clauses\n") clauses-most 0 0

@@ -3,3 +3,4 @@ pub mod Places
 pub mod PlaceLaws
 pub mod Faults
 pub mod RefusedAt
+pub mod UnnamedSo

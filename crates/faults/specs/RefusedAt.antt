@@ -2,18 +2,18 @@
 use Prim.Native.Nat.{ℕ, zero, suc, _+_, _-_, _*_, _≤_, _<_}
 use native.Mathlib.Omega.{arith}
 use mathlib.Core.Path.{_≡_, refl, sym, ap, subst, _∙_}
-use mathlib.Core.Bool.{Bool, true, false, true≢false, cond}
+use mathlib.Core.Bool.{Bool, true, false, cond}
 use mathlib.Core.Option.{Option, none, some}
 use mathlib.Core.List.{List, [], _∷_}
 use lib.ListN.{length}
 use lib.Dec.{eqb, ltb}
-use borrow.Author.Tests.{ltb-false}
+use borrow.Author.Tests.{ltb-true, ltb-false}
 use Rattle.meaning.specs.Clauses.{Literal, any}
 use Rattle.meaning.specs.File
-use Rattle.meaning.specs.File.{Class, nothing, state, every, Reader, Refusal, Rule, Walked, refused, records, Span, two-at, literals, literal-count, offends, before-offence, first-wrong, record-rules, kind-at, same-kind, file-most}
+use Rattle.meaning.specs.File.{Reader, Refusal, Rule, Walked, refused, records, Span, two-at, literals, literal-count, offends, before-offence, first-wrong, record-rules, kind-at, same-kind, file-most}
 use Rattle.laws.specs.Accepted.{kept}
-use Rattle.problem.specs.Offences.{length-literals}
-use Rattle.problem.specs.Steps.{head-stops}
+use Rattle.problem.specs.Offences.{length-literals, any-offends}
+use Rattle.problem.specs.Steps.{head-stops, literals-fit}
 use Rattle.format.specs.Section.{next-record}
 use Rattle.faults.specs.Places.{kind-there, past, walk, start-around, around}
 use Rattle.faults.specs.PlaceLaws.{walk-reached, walk-more}
@@ -22,24 +22,8 @@ use Rattle.faults.specs.declared.places.Spot.{Spot}
 -- ---- a refusal's place lies in its record
 
 -- the first literal that offends is one of the literals
-offence-by : (most : ℕ) (l : Literal) (ls : List Literal) (b : Bool) → offends most l ≡ b
-    → (any (offends most) ls ≡ true → before-offence most ls < length ls)
-    → any (offends most) (l ∷ ls) ≡ true → before-offence most (l ∷ ls) < length (l ∷ ls)
-unfolding any before-offence
-offence-by most l ls true t later e = rw t (omega arith)
-offence-by most l ls false t later e = rw t (omega (arith, later (rw t at e)))
-
-offence-before : (most : ℕ) (ls : List Literal) → any (offends most) ls ≡ true → before-offence most ls < length ls
-unfolding any
-offence-before most [] e = absurd (true≢false (sym e))
-offence-before most (l ∷ ls) e = offence-by most l ls (offends most l) refl (offence-before most ls) e
-
--- a body holds two bytes for each of its literals
-count-fits : (c : Class) (len : ℕ) → 2 * literal-count c len ≤ len
-unfolding literal-count
-count-fits nothing len = omega arith
-count-fits state len = omega arith
-count-fits every len = omega arith
+offence-before : (may : ℕ → Bool) (ls : List Literal) → any (offends may) ls ≡ true → before-offence may ls < length ls
+offence-before may ls e = ltb-true (before-offence may ls) (length ls) (sym (any-offends may ls) ∙ e)
 
 -- every rule that is broken has a place of a sort; so has the first
 abbrev Each : (ℕ → Type 0) → List Rule → Type 0
@@ -73,12 +57,12 @@ in-record file w r e =
     here : {b : Bool} → b ≡ true → In file w (w .at)
     here t = (omega arith, omega arith)
 
-    offence : any (offends (File.body-most file w)) (File.body-literals file w) ≡ true → In file w (File.offence-at file w)
+    offence : any (offends (File.body-names file w)) (File.body-literals file w) ≡ true → In file w (File.offence-at file w)
     offence t =
-        let before = offence-before (File.body-most file w) (File.body-literals file w) t in
+        let before = offence-before (File.body-names file w) (File.body-literals file w) t in
         let c = File.row-at file w .class in
         let count = length-literals file (w .at + 4) (literal-count c (two-at file (w .at))) in
-        let fits = count-fits c (two-at file (w .at)) in
+        let fits = literals-fit c (two-at file (w .at)) in
         (omega (arith, before, count, fits), omega (arith, before, count, fits))
 
 -- ---- both walks come to the refused record

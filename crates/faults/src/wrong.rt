@@ -3,14 +3,17 @@ use crate::places::around;
 use crate::places::left_from;
 use crate::places::word_at;
 use crate::places::word_on;
+use format::Class;
 use format::Problem;
+use format::Row;
 use text::put_filled;
 ghost use mathlib.Core.Path.{_≡_};
-ghost use Prim.Native.Nat.{_+_, _<_};
+ghost use Prim.Native.Nat.{_+_, _-_, _<_};
 ghost use Rattle.meaning.specs.Clauses.{variable};
-ghost use Rattle.meaning.specs.File.{signed};
+ghost use Rattle.meaning.specs.File.{signed, «kind-row»};
+ghost use Rattle.format.specs.Forms.{«class-of»};
 ghost use Rattle.text.specs.Page.{Appends};
-ghost use Rattle.faults.specs.Faults.{cut, «literal-fault», «number-fault», «fault-of», «fault-text»};
+ghost use Rattle.faults.specs.Faults.{cut, unnamed, «literal-fault», «number-fault», «fault-of», «fault-text»};
 
 // What is wrong, with the numbers that tell it.
 pub enum Fault {
@@ -22,6 +25,7 @@ pub enum Fault {
     CountsOut(usize, usize),
     LiteralZero,
     NoState(usize, usize),
+    NextValue(usize, usize),
     NoVariable(usize, usize, usize, usize),
     ManyClauses,
     ManyLemmas,
@@ -51,7 +55,46 @@ fn variable_of(u: usize) -> usize
     65536 - u
 }
 
-// 6: literal 0, or a variable beyond those that the record around it may name.
+// Which variables a record of a kind may name; of what is no kind, none.
+fn class_there(kind: usize) -> Class
+    ensures { λ r. ⌜ «class-of» r ≡ «kind-row» kind .class ⌝ }
+{
+    if 7 <= kind {
+        return Class::Nothing;
+    }
+    let row = Row::of(kind);
+    row.class
+}
+
+// The state variable that a variable is the next value of.
+fn next_of(v: usize, n: usize) -> usize
+    ensures { λ r. ⌜ r ≡ v - n ⌝ }
+{
+    if v <= n {
+        return 0;
+    }
+    v - n
+}
+
+// A variable that the class of a record does not name.
+fn unnamed(class: Class, v: usize, n: usize, m: usize) -> Fault
+    requires { ⌜ (n < 65536) × (m < 65536) ⌝ }
+    ensures { λ r. ⌜ r ≡ unnamed («class-of» class) v n m ⌝ }
+{
+    match class {
+        Class::Nothing => Fault::NoState(v, n),
+        Class::State => Fault::NoState(v, n),
+        Class::Present => {
+            if v <= n + n {
+                return Fault::NextValue(v, next_of(v, n));
+            }
+            Fault::NoVariable(v, n, m, n + n + m)
+        }
+        Class::Every => Fault::NoVariable(v, n, m, n + n + m),
+    }
+}
+
+// 6: literal 0, or a variable that the record around it may not name.
 fn literal_fault(file: &[u8], place: usize) -> Fault
     ensures { λ r. ⌜ r ≡ «literal-fault» (now (file .entry)) place ⌝ }
 {
@@ -60,12 +103,9 @@ fn literal_fault(file: &[u8], place: usize) -> Fault
         return Fault::LiteralZero;
     }
     let n = word_at(file, 4);
+    let m = word_at(file, 6);
     let s = around(file, place);
-    if s.kind == 3 {
-        let m = word_at(file, 6);
-        return Fault::NoVariable(v, n, m, n + n + m);
-    }
-    Fault::NoState(v, n)
+    unnamed(class_there(s.kind), v, n, m)
 }
 
 // 7: the record at a place is one lemma too many, or one clause.
@@ -176,6 +216,14 @@ pub fn put_fault(out: &mut [u8], at: usize, f: Fault) -> usize
             b"variable #, but the file has # state variables\n",
             v as u64,
             n as u64,
+            0,
+        ),
+        Fault::NextValue(v, of) => put_filled(
+            out,
+            at,
+            b"variable # is the next value of state variable #, but only state variables, inputs and helpers may stand here\n",
+            v as u64,
+            of as u64,
             0,
         ),
         Fault::NoVariable(v, n, m, most) => {

@@ -7,7 +7,7 @@ use Rattle.meaning.specs.File
 use Rattle.meaning.specs.File.{Kind}
 use Rattle.meaning.specs.Clauses
 use Rattle.format.specs.declared.Class.{Class}
-use Rattle.format.specs.declared.Class.the-variants.{Nothing, State, Every}
+use Rattle.format.specs.declared.Class.the-variants.{Nothing, State, Present, Every}
 use Rattle.format.specs.declared.Row.{Row}
 use Rattle.format.specs.declared.Literal.{Literal}
 use Rattle.format.specs.declared.Literal.the-variants.{Pos, Neg}
@@ -15,6 +15,7 @@ use Rattle.format.specs.declared.Literal.the-variants.{Pos, Neg}
 abbrev pub class-of : Class → File.Class
 class-of Nothing = File.nothing
 class-of State = File.state
+class-of Present = File.present
 class-of Every = File.every
 
 abbrev pub kind-of : Row → Kind

@@ -39,7 +39,7 @@ problem-at file r =
     }
 
 -- What the reader gives with an accepted file, and what every later room asks: the sections lie inside it, n, m and k are in their limits,
--- and every literal is in the range of its kind, so that no later code tests it again
+-- and every literal names a variable of its kind, so that no later code tests it again
 pub record Placed (file : List ℕ) (r : Problem) : Type 0 where
   pub short : length file ≤ file-most
   pub n-in : r .n ≤ n-most

@@ -34,10 +34,11 @@ impl Problem {
     pub const LEMMAS_MOST: usize = 128;
 }
 
-// Which variables a body may name: none, those of the state, or every one.
+// Which variables a body may name: none, those of the state, those of the present moment (all but next values), or every one.
 pub enum Class {
     Nothing,
     State,
+    Present,
     Every,
 }
 
@@ -83,7 +84,7 @@ const ROWS: [Row; 7] = [
         shortest: 0,
         longest: 128,
         even: true,
-        class: Class::State,
+        class: Class::Present,
         most: Problem::CLAUSES_MOST,
     },
     Row {

@@ -1,21 +1,19 @@
--- What an accepted file is: a chain of records of which none is refused, so that every literal is in the range of its kind.
-use Prim.Native.Nat.{ℕ, zero, suc, _+_, _-_, _*_, _/_, _≤_, _<_}
-use mathlib.Core.Path.{_≡_, refl, sym, ap, subst, subst⁻¹, subst₂, _∙_}
+-- What an accepted file is: a chain of records of which none is refused, and what such a record keeps.
+use Prim.Native.Nat.{ℕ, zero, suc, _+_, _≤_}
+use mathlib.Core.Path.{_≡_, refl, sym, subst, _∙_}
 use mathlib.Core.Logic.{_⊎_, inl, inr}
 use mathlib.Core.Bool.{Bool, true, false, not, _&&_, _||_, cond, true≢false}
 use mathlib.Core.Option.{Option, none, some}
-use mathlib.Core.List.{List, [], _∷_, map}
+use mathlib.Core.List.{List, [], _∷_}
 use lib.ListN.{length}
-use lib.Dec.{ltb, leb, eqb}
-use borrow.Author.Tests.{ltb-false, eqb-true, eqb-false, eq-eqb, ne-eqb}
+use lib.Dec.{ltb, eqb}
+use borrow.Author.Tests.{ltb-false, eq-eqb, ne-eqb}
 use native.Mathlib.Omega.{arith}
-use Rattle.meaning.specs.Clauses.{Literal, Clause, variable, any}
+use Rattle.meaning.specs.Clauses.{any}
 use Rattle.meaning.specs.Meaning.{Problem}
-use Rattle.meaning.specs.Rules.{width}
 use Rattle.meaning.specs.File
-use Rattle.meaning.specs.File.{Kind, Class, Reader, Refusal, Rule, Span, Walked, refused, records, Reading, accepted, rejected, read, walked, walk, at-start, past, kind-at, row-at, body-at, body-length, body-literals, body-most, span-at, record-rules, first-wrong, kind-wrong, kind-row, literals, literal-count, largest-variable, offends, two-at, clauses-of, of-kind, keep-if, clause-of, unless-refused, unless-end, and-before, problem-of, reading-of, refuse-if, file-most}
+use Rattle.meaning.specs.File.{Reader, Refusal, Rule, Span, Walked, refused, records, accepted, rejected, read, walked, walk, at-start, past, kind-at, row-at, body-at, body-length, body-literals, body-names, span-at, record-rules, first-wrong, kind-wrong, offends, two-at, unless-refused, unless-end, and-before, problem-of, reading-of, refuse-if, file-most}
 use Rattle.laws.specs.Basics.{true-of-not, not-of-false}
-use Rattle.laws.specs.Within.{ClauseWithin, Within, WellFormed}
 
 pub refused-is-not-records : {r : Refusal} {ss : List Span} → refused r ≡ records ss → ⊥
 refused-is-not-records e = let z : _≡_ {A = ℕ} 0 1 = cc in omega arith
@@ -116,7 +114,7 @@ pub record Kept (file : List ℕ) (w : Reader) : Type 0 where
   pub body : File.body-short file w ≡ false
   pub many : File.too-many (row-at file w) (File.same-kind file w) (w .clauses) ≡ false
   pub counts : File.counts-wrong (kind-at file w) (two-at file (body-at w)) (two-at file (body-at w + 2)) ≡ false
-  pub body-literals : any (offends (body-most file w)) (body-literals file w) ≡ false
+  pub body-literals : any (offends (body-names file w)) (body-literals file w) ≡ false
 
 pub kept : (file : List ℕ) (w : Reader) → first-wrong (record-rules file w) ≡ none → Kept file w
 unfolding record-rules File.rule-if
@@ -130,26 +128,13 @@ kept file w e =
     let h = rule-kept _ _ (g .1) in
     record { head = a .0; kind = b .0; len = c .0; body = d .0; many = f .0; counts = g .0; body-literals = h .0 }
 
-or-false-left : (a b : Bool) → (a || b) ≡ false → a ≡ false
+pub or-false-left : (a b : Bool) → (a || b) ≡ false → a ≡ false
 or-false-left true b h = h
 or-false-left false b h = refl
 
-or-false-right : (a b : Bool) → (a || b) ≡ false → b ≡ false
+pub or-false-right : (a b : Bool) → (a || b) ≡ false → b ≡ false
 or-false-right true b h = absurd (true≢false h)
 or-false-right false b h = h
-
--- literals of which none offends are in range
-pub none-offends : (most : ℕ) (ls : List Literal) → any (offends most) ls ≡ false → ClauseWithin most ls
-unfolding any offends
-none-offends most [] h = tt
-none-offends most (l ∷ ls) h =
-    let here = or-false-left (offends most l) (any (offends most) ls) h in
-    let not-zero = eqb-false (variable l) 0 (or-false-left (eqb (variable l) 0) (ltb most (variable l)) here) in
-    let not-large = ltb-false most (variable l) (or-false-right (eqb (variable l) 0) (ltb most (variable l)) here) in (
-      omega (arith, not-zero),
-      not-large,
-      none-offends most ls (or-false-right (offends most l) (any (offends most) ls) h),
-    )
 
 -- kinds are 1..6 and never go down; the first record is of kind 1, and no other is
 pub record KindKept (before kind : ℕ) : Type 0 where
@@ -189,117 +174,3 @@ kind-kept before kind h =
     second : (b : Bool) → (b && not (eqb before 0)) ≡ false → eqb before 0 ≡ false → b ≡ false
     second true g t = absurd (true≢false (sym (not-of-false t) ∙ g))
     second false g t = refl
-
--- ---- every literal is in the range of its kind
-
--- the variables of a record's literals are those that its kind may name, where n and m are such
-abbrev pub SpanWithin : ℕ → ℕ → List ℕ → Span → Type 0
-SpanWithin n m file s =
-    ClauseWithin (largest-variable (kind-row (s .kind) .class) n m)
-    (literals file (s .start) (literal-count (kind-row (s .kind) .class) (s .len)))
-
-abbrev pub SpansWithin : ℕ → ℕ → List ℕ → List Span → Type 0
-SpansWithin n m file [] = Unit {0}
-SpansWithin n m file (s ∷ ss) = SpanWithin n m file s × SpansWithin n m file ss
-
-span-within : (file : List ℕ) (w : Reader) → Kept file w → SpanWithin (w .n) (w .m) file (span-at file w)
-unfolding span-at body-literals body-most row-at
-span-within file w k = none-offends (body-most file w) (body-literals file w) (k .body-literals)
-
--- after the first record n and m stay as they are
-past-counts : (file : List ℕ) (w : Reader) → eqb (kind-at file w) 1 ≡ false
-    → (past file w .n ≡ w .n) × (past file w .m ≡ w .m)
-unfolding past
-past-counts file w e = (rw e, rw e)
-
-past-before : (file : List ℕ) (w : Reader) → Kept file w → past file w .before ≡ 0 → ⊥
-unfolding past
-past-before file w k e = omega (arith, kind-kept (w .before) (kind-at file w) (k .kind) .least)
-
-rest-within : (file : List ℕ) (w : Reader) (n m : ℕ) (ss : List Span) → (Chain file (past file w) ss → SpansWithin n m file ss)
-    → ((eqb (kind-at file w) 6 ≡ true) × (ss ≡ []) × (length file ≤ past file w .at))
-    ⊎ ((eqb (kind-at file w) 6 ≡ false) × Chain file (past file w) ss)
-    → SpansWithin n m file ss
-rest-within file w n m ss on (inl end) = subst⁻¹ (SpansWithin n m file) (end .1) tt
-rest-within file w n m ss on (inr more) = on (more .1)
-
-chain-within : (file : List ℕ) (w : Reader) (n m : ℕ) (ss : List Span) → (w .before ≡ 0 → ⊥) → w .n ≡ n → w .m ≡ m → Chain file w ss
-    → SpansWithin n m file ss
-chain-within file w n m (s ∷ ss) nonzero en em c =
-    let k = kept file w (c .0) in
-    let same = past-counts file w (kind-kept (w .before) (kind-at file w) (k .kind) .not-again nonzero) in (
-      subst⁻¹ (SpanWithin n m file) (c .1)
-          (subst₂ (λ (a b : ℕ). SpanWithin a b file (span-at file w)) en em (span-within file w k)),
-      rest-within file w n m ss
-          (λ h. chain-within file (past file w) n m ss (past-before file w k) (same .0 ∙ en) (same .1 ∙ em) h) (c .2),
-    )
-
--- the first record gives n and m
-first-counts : (file : List ℕ) → eqb (kind-at file at-start) 1 ≡ true
-    → (past file at-start .n ≡ two-at file 4) × (past file at-start .m ≡ two-at file 6)
-unfolding past at-start body-at
-first-counts file e = (rw e, rw e)
-
--- and names no variable
-first-within : (file : List ℕ) (n m : ℕ) → eqb (kind-at file at-start) 1 ≡ true → SpanWithin n m file (span-at file at-start)
-unfolding span-at kind-row File.kind-table literals literal-count
-first-within file n m e =
-    subst⁻¹
-    (λ (kind : ℕ).
-    ClauseWithin (largest-variable (kind-row kind .class) n m)
-    (literals file (body-at at-start) (literal-count (kind-row kind .class) (body-length file at-start))))
-    (eqb-true (kind-at file at-start) 1 e)
-    tt
-
-pub spans-within : (file : List ℕ) (ss : List Span) → Chain file at-start ss → SpansWithin (two-at file 4) (two-at file 6) file ss
-unfolding at-start
-spans-within file (s ∷ ss) c =
-    let k = kept file at-start (c .0) in
-    let one = kind-kept 0 (kind-at file at-start) (k .kind) .first refl in
-    let counts = first-counts file one in (
-      subst⁻¹ (SpanWithin (two-at file 4) (two-at file 6) file) (c .1)
-          (first-within file (two-at file 4) (two-at file 6) one),
-      rest-within file at-start (two-at file 4) (two-at file 6) ss
-          (λ h. chain-within file (past file at-start) _ _ ss (past-before file at-start k) (counts .0) (counts .1) h) (c .2),
-    )
-
--- the clauses of a kind that holds literals are in its range
-pub kind-within : (kind n m : ℕ) (file : List ℕ) (ss : List Span)
-    → ((len : ℕ) → literal-count (kind-row kind .class) len ≡ len / 2) → SpansWithin n m file ss
-    → Within (largest-variable (kind-row kind .class) n m) (clauses-of kind file ss)
-unfolding clauses-of of-kind clause-of keep-if
-kind-within kind n m file [] half h = tt
-kind-within kind n m file (s ∷ ss) half h = go (eqb (s .kind) kind) refl (kind-within kind n m file ss half (h .1))
-  where
-    clause-within : s .kind ≡ kind → ClauseWithin (largest-variable (kind-row kind .class) n m) (clause-of file s)
-    clause-within e =
-        subst (λ (count : ℕ). ClauseWithin (largest-variable (kind-row kind .class) n m) (literals file (s .start) count))
-        (half (s .len))
-        (subst
-        (λ (q : ℕ).
-        ClauseWithin (largest-variable (kind-row q .class) n m)
-        (literals file (s .start) (literal-count (kind-row q .class) (s .len))))
-        e
-        (h .0))
-
-    go : (b : Bool) → eqb (s .kind) kind ≡ b
-        → Within (largest-variable (kind-row kind .class) n m) (map (clause-of file) (of-kind kind ss))
-        → Within (largest-variable (kind-row kind .class) n m) (map (clause-of file) (keep-if b s (of-kind kind ss)))
-    go true t rest = (clause-within (eqb-true (s .kind) kind t), rest)
-    go false t rest = rest
-
-problem-within : (file : List ℕ) (ss : List Span) → SpansWithin (two-at file 4) (two-at file 6) file ss → WellFormed (problem-of file ss)
-unfolding problem-of width kind-row File.kind-table largest-variable literal-count
-problem-within file ss good =
-    record {
-      init = kind-within 2 (two-at file 4) (two-at file 6) file ss (λ len. refl) good;
-      tr = kind-within 3 (two-at file 4) (two-at file 6) file ss (λ len. refl) good;
-      bad = kind-within 4 (two-at file 4) (two-at file 6) file ss (λ len. refl) good;
-      lemmas = kind-within 5 (two-at file 4) (two-at file 6) file ss (λ len. refl) good;
-    }
-
--- every clause of an accepted file names variables of its kind alone
-pub accepted-well-formed : (file : List ℕ) (p : Problem) → read file ≡ accepted p → WellFormed p
-accepted-well-formed file p e =
-    let found = accepted-chain file p e in
-    subst⁻¹ WellFormed (found .2) (problem-within file (found .0) (spans-within file (found .0) (found .1)))

@@ -19,7 +19,7 @@ use Rattle.meaning.specs.Demands
 use Rattle.meaning.specs.Demands.{Trimmer, In, Answered, RefusedBy, marks-in, rows-in, set-left, rows-left, one-count, list-count, SomeSafeInductive, Complete, FirstRows, RowsFit, FixedBy, Demand1, Demand2, Demand3}
 use Rattle.laws.specs.Basics.{nonzero}
 use Rattle.laws.specs.Within.{WellFormed}
-use Rattle.laws.specs.Accepted.{accepted-well-formed}
+use Rattle.laws.specs.Named.{accepted-well-formed}
 use Rattle.laws.specs.Runs.{no-run-is-bad}
 use Rattle.laws.specs.Written.{first-written}
 use Rattle.laws.specs.NodeRight.{sets-of}

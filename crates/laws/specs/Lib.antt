@@ -2,6 +2,7 @@
 pub mod Basics
 pub mod Within
 pub mod Accepted
+pub mod Named
 pub mod Runs
 pub mod Written
 pub mod Budget
@@ -12,6 +13,7 @@ pub mod Moves
 pub mod SearchRight
 pub mod Moment
 pub mod Marked
+pub mod BadStates
 pub mod Questions
 pub mod Inductive
 pub mod Forced
@@ -26,5 +28,6 @@ pub mod ListingRight
 pub mod Paper
 pub mod DemandsHold
 pub mod Useless
+pub mod Misread
 pub mod Feed
 pub mod Promises

@@ -11,8 +11,8 @@ use Rattle.meaning.specs.Clauses.{Clause, Values, all, holds, all-hold}
 use Rattle.meaning.specs.Demands.{In}
 use Rattle.meaning.specs.Meaning.{Problem, State, Marks, has, at-marks, lemmas-of, AllOf, Part}
 use Rattle.laws.specs.Basics.{and-left, and-right, and-both}
-use Rattle.laws.specs.Within.{Within}
-use Rattle.laws.specs.Range.{clause-at, within}
+use Rattle.laws.specs.Within.{UpTo, Within}
+use Rattle.laws.specs.Range.{clause-at, clauses-of}
 
 in-marks : (c : Clause) (S : Marks) (cs : List Clause) → In c (at-marks S cs) → In c cs
 unfolding at-marks
@@ -21,7 +21,7 @@ in-marks c (true ∷ S) (d ∷ cs) (inr i) = inr (in-marks c S cs i)
 in-marks c (false ∷ S) (d ∷ cs) i = inr (in-marks c S cs i)
 
 pub marks-within : (most : ℕ) (S : Marks) (cs : List Clause) → Within most cs → Within most (at-marks S cs)
-marks-within most S cs h = within most (at-marks S cs) (λ c i. clause-at most c cs h (in-marks c S cs i))
+marks-within most S cs h = clauses-of (UpTo most) (at-marks S cs) (λ c i. clause-at (UpTo most) c cs h (in-marks c S cs i))
 
 -- the clauses of cs at the positions of S hold one by one
 abbrev pub EachOf : Marks → List Clause → Values → Type 0

@@ -1,4 +1,4 @@
--- Where clauses hold: only the variables in range count, a denied clause fails, and what a moment gives each variable.
+-- Where clauses hold: only the variables that they name count, a denied clause fails, and what a moment gives each variable.
 use Prim.Native.Nat.{ℕ, _+_, _-_, _≤_, _<_}
 use native.Mathlib.Omega.{arith}
 use mathlib.Core.Path.{_≡_, refl, ap}
@@ -11,25 +11,25 @@ use Rattle.meaning.specs.Clauses.{Literal, pos, neg, Clause, variable, negation
 use Rattle.meaning.specs.Meaning.{State, moment}
 use Rattle.meaning.specs.Rules.{denied, next}
 use Rattle.laws.specs.Basics.{bool-cases}
-use Rattle.laws.specs.Within.{ClauseWithin, Within}
+use Rattle.laws.specs.Within.{ClauseOf, ClausesOf, UpTo, Present}
 use Rattle.laws.specs.Setting.{is-true-negation}
 
--- two values for each variable agree on 1..most
-abbrev pub Agree : ℕ → Values → Values → Type 0
-Agree most u w = (x : ℕ) → 1 ≤ x → x ≤ most → u x ≡ w x
+-- two values for each variable agree on those of a sort
+abbrev pub Agree : (ℕ → Type 0) → Values → Values → Type 0
+Agree P u w = (x : ℕ) → P x → u x ≡ w x
 
-module _ (most : ℕ) (u w : Values) (agree : Agree most u w) where
-  pub literal-agree : (l : Literal) → 1 ≤ variable l → variable l ≤ most → is-true u l ≡ is-true w l
+module _ (P : ℕ → Type 0) (u w : Values) (agree : Agree P u w) where
+  pub literal-agree : (l : Literal) → P (variable l) → is-true u l ≡ is-true w l
   unfolding is-true variable
-  literal-agree (pos x) g h = agree x g h
-  literal-agree (neg x) g h = ap not (agree x g h)
+  literal-agree (pos x) g = agree x g
+  literal-agree (neg x) g = ap not (agree x g)
 
-  pub clause-agree : (c : Clause) → ClauseWithin most c → holds u c ≡ holds w c
+  pub clause-agree : (c : Clause) → ClauseOf P c → holds u c ≡ holds w c
   unfolding holds any
   clause-agree [] h = refl
-  clause-agree (l ∷ c) h = cc (literal-agree l (h .0) (h .1), clause-agree c (h .2))
+  clause-agree (l ∷ c) h = cc (literal-agree l (h .0), clause-agree c (h .1))
 
-  pub all-agree : (cs : List Clause) → Within most cs → all-hold u cs ≡ all-hold w cs
+  pub all-agree : (cs : List Clause) → ClausesOf P cs → all-hold u cs ≡ all-hold w cs
   unfolding all-hold all
   all-agree [] h = refl
   all-agree (c ∷ cs) h = cc (clause-agree c (h .0), all-agree cs (h .1))
@@ -54,13 +54,15 @@ holds-next n w (l ∷ c) = cc (literal l, holds-next n w c)
     literal (pos x) = refl
     literal (neg x) = refl
 
-pub moment-now : (n : ℕ) (s t : State) (x : Values) → Agree n (moment n s t x) s
+pub moment-now : (n : ℕ) (s t : State) (x : Values) → Agree (UpTo n) (moment n s t x) s
 unfolding moment
-moment-now n s t x v g h = cc (le-leb v n h)
+moment-now n s t x v g = cc (le-leb v n (g .1))
 
-pub moment-next : (n : ℕ) (s t : State) (x : Values) → Agree n (λ v. moment n s t x (n + v)) t
+pub moment-next : (n : ℕ) (s t : State) (x : Values) → Agree (UpTo n) (λ v. moment n s t x (n + v)) t
 unfolding moment
-moment-next n s t x v g h =
+moment-next n s t x v g =
+    let low = g .0 in
+    let high = g .1 in
     let past : n < n + v = omega arith in
     let up-to : n + v ≤ n + n = omega arith in
     let back : n + v - n ≡ v = omega arith in
@@ -76,3 +78,13 @@ moment-of n w v = go (bool-cases (leb v n)) (bool-cases (leb v (n + n)))
     go (inl a) b = cc
     go (inr a) (inl b) = let up : n + (v - n) ≡ v = omega (arith, leb-false v n a) in cc
     go (inr a) (inr b) = let up : n + n + (v - (n + n)) ≡ v = omega (arith, leb-false v (n + n) b) in cc
+
+-- whichever the next state is, a variable of the present moment has the same value
+pub moment-present : (n m : ℕ) (s t t′ : State) (x : Values) → Agree (Present n m) (moment n s t x) (moment n s t′ x)
+unfolding moment
+moment-present n m s t t′ x v (inl g) = cc (le-leb v n (g .1))
+moment-present n m s t t′ x v (inr g) =
+    let low = g .0 in
+    let past-state : n < v = omega arith in
+    let past-next : n + n < v = omega arith in
+    cc (lt-leb v n past-state, lt-leb v (n + n) past-next)

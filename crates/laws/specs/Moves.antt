@@ -11,7 +11,7 @@ use Rattle.meaning.specs.Clauses.{Literal, Clause, variable, any, all}
 use Rattle.meaning.specs.Demands.{In}
 use Rattle.meaning.specs.Search.{Setting, value, says-true, says-false, has-true, only-false, keep-unset, unset-places, only-place, forced-by, first-place, open-in, or-else, first-of, Move, closed, satisfied, force, try, rule-a, rule-b, rule-c, rule-d, move}
 use Rattle.laws.specs.Basics.{not-both, not-true-is-false, bool-cases, any-of, all-at, all-of}
-use Rattle.laws.specs.Within.{Within}
+use Rattle.laws.specs.Within.{UpTo, Within}
 use Rattle.laws.specs.Range.{literal-at, clause-at}
 
 module _ {A : Type 0} where
@@ -182,7 +182,7 @@ open-unset cs v l h = at-clause (first-at (open-in v) cs l h)
 pub unset-in-range : (most : ℕ) (cs : List Clause) (v : Setting) (l : Literal) → Within most cs → length v ≡ suc most
     → UnsetIn cs v l → variable l < length v
 unset-in-range most cs v l g e u =
-    let h : variable l ≤ most = literal-at most l (u .0) (clause-at most (u .0) cs g (u .1)) (u .2) .1 in
+    let h : variable l ≤ most = literal-at (UpTo most) l (u .0) (clause-at (UpTo most) (u .0) cs g (u .1)) (u .2) .1 in
     omega arith
 
 -- where no clause has only false literals and not every one has a true one, rule (d) finds a literal

@@ -1,4 +1,4 @@
--- What an unsatisfiable question means, for a problem whose clauses are in range, and that a larger set keeps it unsatisfiable.
+-- What an unsatisfiable question means, for a problem whose clauses name the variables of their kind, and that a larger set keeps it unsatisfiable.
 use Prim.Native.Nat.{ℕ, zero, suc, _+_, _≤_}
 use native.Mathlib.Omega.{arith}
 use mathlib.Core.Path.{_≡_, refl, sym, ap, _∙_, fun-ext}
@@ -7,31 +7,32 @@ use mathlib.Core.Bool.{Bool, true, false}
 use mathlib.Core.List.{List, [], _∷_, _++_, map}
 use lib.ListN.{getD}
 use Rattle.meaning.specs.Clauses.{Literal, pos, neg, Clause, variable, Values, all, holds, all-hold}
-use Rattle.meaning.specs.Meaning.{Problem, State, moment, InitState, Step, Marks, at-marks, lemmas-of, AllOf, Safe, Part}
+use Rattle.meaning.specs.Meaning.{Problem, State, moment, InitState, Step, Marks, at-marks, lemmas-of, AllOf, BadState, Safe, Part}
 use Rattle.meaning.specs.Rules.{Question, initiation, step, safety, denied, next, lemma, clauses, width, asked}
 use Rattle.laws.specs.Basics.{not-both, not-of-false, false-of-not, and-left, and-right, and-both, all-append}
-use Rattle.laws.specs.Within.{ClauseWithin, Within, WellFormed}
-use Rattle.laws.specs.Range.{within-wider, within-append}
+use Rattle.laws.specs.Within.{UpTo, ClauseWithin, Within, WellFormed}
+use Rattle.laws.specs.Range.{within-wider, present-within, of-append}
 use Rattle.laws.specs.Setting.{variable-negation}
 use Rattle.laws.specs.Marked.{marks-within, all-of-part}
 use Rattle.laws.specs.SearchRight.{searched-no}
 use Rattle.laws.specs.Moment.{clause-agree, all-agree, denied-fails, holds-next, moment-now, moment-next, moment-of}
+use Rattle.laws.specs.BadStates.{bad-any-next}
 
--- the clauses of a question are in range
+-- the clauses of a question name variables in 1..2n+m
 
 pub denied-within : (most : ℕ) (c : Clause) → ClauseWithin most c → Within most (denied c)
 unfolding denied
 denied-within most [] h = tt
-denied-within most (l ∷ c) h = ((rw variable-negation (h .0), rw variable-negation (h .1), tt), denied-within most c (h .2))
+denied-within most (l ∷ c) h = (((rw variable-negation (h .0 .0), rw variable-negation (h .0 .1)), tt), denied-within most c (h .1))
 
 pub next-within : (n : ℕ) (c : Clause) → ClauseWithin n c → ClauseWithin (n + n) (map (next n) c)
 unfolding variable next
 next-within n [] h = tt
 next-within n (l ∷ c) h =
     let e : variable (next n l) ≡ n + variable l = shifted l in
-    let low : 1 ≤ variable l = h .0 in
-    let high : variable l ≤ n = h .1 in
-    (omega arith, omega arith, next-within n c (h .2))
+    let low : 1 ≤ variable l = h .0 .0 in
+    let high : variable l ≤ n = h .0 .1 in
+    ((omega arith, omega arith), next-within n c (h .1))
   where
     shifted : (l : Literal) → variable (next n l) ≡ n + variable l
     shifted (pos x) = refl
@@ -61,15 +62,15 @@ clauses-within p f S q = go q
 
     go : (q : Question) → Within most (clauses p S q)
     go (initiation d) =
-        within-append most (p .init) (denied (lemma p d)) (of-state (p .init) (f .init))
+        of-append (UpTo most) (p .init) (denied (lemma p d)) (of-state (p .init) (f .init))
         (of-state (denied (lemma p d)) (denied-within (p .n) (lemma p d) (lemma-within p f d)))
     go (step d) =
         let after : Clause = map (next (p .n)) (lemma p d) in
-        within-append most (p .tr) (at-marks S (p .lemmas) ++ denied after) (f .tr)
-        (within-append most (at-marks S (p .lemmas)) (denied after) set
+        of-append (UpTo most) (p .tr) (at-marks S (p .lemmas) ++ denied after) (f .tr)
+        (of-append (UpTo most) (at-marks S (p .lemmas)) (denied after) set
         (within-wider (p .n + p .n) most (omega arith) (denied after)
         (denied-within (p .n + p .n) after (next-within (p .n) (lemma p d) (lemma-within p f d)))))
-    go safety = within-append most (at-marks S (p .lemmas)) (p .bad) set (of-state (p .bad) (f .bad))
+    go safety = of-append (UpTo most) (at-marks S (p .lemmas)) (p .bad) set (present-within (p .n) (p .m) (p .bad) (f .bad))
 
 -- no values satisfy the clauses of an unsatisfiable question
 
@@ -144,10 +145,10 @@ step-means p f S d = Iff·trans (asked-no p f S (step d)) (forth, back)
         same-after : holds w after ≡ holds t c
         same-after =
             holds-next (p .n) w c
-            ∙ clause-agree (p .n) (λ v. w (p .n + v)) t (moment-next (p .n) s t x) c (lemma-within p f d)
+            ∙ clause-agree (UpTo (p .n)) (λ v. w (p .n + v)) t (moment-next (p .n) s t x) c (lemma-within p f d)
 
         set-now : all-hold w set ≡ true
-        set-now = all-agree (p .n) w s (moment-now (p .n) s t x) set (marks-within (p .n) S (p .lemmas) (f .lemmas)) ∙ a
+        set-now = all-agree (UpTo (p .n)) w s (moment-now (p .n) s t x) set (marks-within (p .n) S (p .lemmas) (f .lemmas)) ∙ a
 
         set-first : holds t c ≡ false → all-hold w (set ++ denied after) ≡ true
         set-first fails = append-holds w set (denied after) .1 (set-now, denied-holds w after .1 (same-after ∙ fails))
@@ -168,12 +169,34 @@ step-means p f S d = Iff·trans (asked-no p f S (step d)) (forth, back)
         same = ap (λ (u : Values). all-hold u (p .tr)) (fun-ext (moment-of (p .n) w))
 
 pub safety-means : (p : Problem) → WellFormed p → (S : Marks) → (asked p S safety .sat ≡ false) ↔ Safe p S
-unfolding clauses
-safety-means p f S =
-    Iff·trans (asked-no p f S safety) (
-      λ g s a b. g s (append-holds s (lemmas-of p S) (p .bad) .1 (a, b)),
-      λ g w h. let both = append-holds w (lemmas-of p S) (p .bad) .0 h in g w (both .0) (both .1),
-    )
+unfolding clauses lemmas-of
+safety-means p f S = Iff·trans (asked-no p f S safety) (forth, back)
+  where
+    set : List Clause
+    set = at-marks S (p .lemmas)
+
+    None : Values → Type 0
+    None w = all-hold w (set ++ p .bad) ≡ true → ⊥
+
+    forth : ((w : Values) → None w) → (s : State) → all-hold s set ≡ true → BadState p s → ⊥
+    forth g s a (x, bad) = g w (append-holds w set (p .bad) .1 (set-now, bad))
+      where
+        w : Values
+        w = moment (p .n) s s x
+
+        set-now : all-hold w set ≡ true
+        set-now = all-agree (UpTo (p .n)) w s (moment-now (p .n) s s x) set (marks-within (p .n) S (p .lemmas) (f .lemmas)) ∙ a
+
+    back : ((s : State) → all-hold s set ≡ true → BadState p s → ⊥) → (w : Values) → None w
+    back g w h = let both = append-holds w set (p .bad) .0 h in g w (both .0) (x, same ∙ both .1)
+      where
+        x : Values
+        x v = w (p .n + p .n + v)
+
+        same : all-hold (moment (p .n) w w x) (p .bad) ≡ all-hold w (p .bad)
+        same =
+            bad-any-next p f w w (λ v. w (p .n + v)) x
+            ∙ ap (λ (u : Values). all-hold u (p .bad)) (fun-ext (moment-of (p .n) w))
 
 -- a question that is unsatisfiable for a set is so for a larger one
 

@@ -1,43 +1,58 @@
--- The range of a clause list, said of its members.
-use Prim.Native.Nat.{ℕ, _≤_}
+-- What sort of variables a clause list names, said of its members.
+use Prim.Native.Nat.{ℕ, _+_, _≤_}
 use native.Mathlib.Nat.{le-trans}
+use native.Mathlib.Omega.{arith}
 use mathlib.Core.Path.{refl, sym, subst}
 use mathlib.Core.Logic.{_⊎_, inl, inr}
 use mathlib.Core.List.{List, [], _∷_, _++_}
 use Rattle.meaning.specs.Clauses.{Literal, Clause, variable}
 use Rattle.meaning.specs.Demands.{In}
 use Rattle.laws.specs.Basics.{in-append-cases}
-use Rattle.laws.specs.Within.{ClauseWithin, Within}
+use Rattle.laws.specs.Within.{ClauseOf, ClausesOf, UpTo, ClauseWithin, Within, Present}
 
-abbrev pub LiteralWithin : ℕ → Literal → Type 0
-LiteralWithin most l = (1 ≤ variable l) × (variable l ≤ most)
+module _ (P : ℕ → Type 0) where
+  pub literal-at : (l : Literal) (c : Clause) → ClauseOf P c → In l c → P (variable l)
+  literal-at l (k ∷ c) h (inl e) = subst (λ (m : Literal). P (variable m)) (sym e) (h .0)
+  literal-at l (k ∷ c) h (inr g) = literal-at l c (h .1) g
 
-pub literal-at : (most : ℕ) (l : Literal) (c : Clause) → ClauseWithin most c → In l c → LiteralWithin most l
-literal-at most l (k ∷ c) h (inl e) = subst (λ (m : Literal). LiteralWithin most m) (sym e) (h .0, h .1)
-literal-at most l (k ∷ c) h (inr g) = literal-at most l c (h .2) g
+  pub clause-at : (c : Clause) (cs : List Clause) → ClausesOf P cs → In c cs → ClauseOf P c
+  clause-at c (d ∷ cs) h (inl e) = subst (λ (k : Clause). ClauseOf P k) (sym e) (h .0)
+  clause-at c (d ∷ cs) h (inr g) = clause-at c cs (h .1) g
 
-pub clause-within : (most : ℕ) (c : Clause) → ((l : Literal) → In l c → LiteralWithin most l) → ClauseWithin most c
-clause-within most [] f = tt
-clause-within most (l ∷ c) f = (f l (inl refl) .0, f l (inl refl) .1, clause-within most c (λ m g. f m (inr g)))
+  pub clauses-of : (cs : List Clause) → ((c : Clause) → In c cs → ClauseOf P c) → ClausesOf P cs
+  clauses-of [] f = tt
+  clauses-of (c ∷ cs) f = (f c (inl refl), clauses-of cs (λ d g. f d (inr g)))
 
-pub clause-at : (most : ℕ) (c : Clause) (cs : List Clause) → Within most cs → In c cs → ClauseWithin most c
-clause-at most c (d ∷ cs) h (inl e) = subst (λ (k : Clause). ClauseWithin most k) (sym e) (h .0)
-clause-at most c (d ∷ cs) h (inr g) = clause-at most c cs (h .1) g
+  pub of-append : (cs ds : List Clause) → ClausesOf P cs → ClausesOf P ds → ClausesOf P (cs ++ ds)
+  of-append cs ds g h = clauses-of (cs ++ ds) (λ c i. either c (in-append-cases c cs ds i))
+    where
+      either : (c : Clause) → In c cs ⊎ In c ds → ClauseOf P c
+      either c (inl i) = clause-at c cs g i
+      either c (inr i) = clause-at c ds h i
 
-pub within : (most : ℕ) (cs : List Clause) → ((c : Clause) → In c cs → ClauseWithin most c) → Within most cs
-within most [] f = tt
-within most (c ∷ cs) f = (f c (inl refl), within most cs (λ d g. f d (inr g)))
+-- a wider sort
+module _ (P Q : ℕ → Type 0) (wide : (v : ℕ) → P v → Q v) where
+  pub clause-of-wider : (c : Clause) → ClauseOf P c → ClauseOf Q c
+  clause-of-wider [] g = tt
+  clause-of-wider (l ∷ c) g = (wide (variable l) (g .0), clause-of-wider c (g .1))
+
+  pub clauses-of-wider : (cs : List Clause) → ClausesOf P cs → ClausesOf Q cs
+  clauses-of-wider [] g = tt
+  clauses-of-wider (c ∷ cs) g = (clause-of-wider c (g .0), clauses-of-wider cs (g .1))
+
+up-to-wider : (few most : ℕ) → few ≤ most → (v : ℕ) → UpTo few v → UpTo most v
+up-to-wider few most h v g = (g .0, le-trans (g .1) h)
 
 pub clause-wider : (few most : ℕ) → few ≤ most → (c : Clause) → ClauseWithin few c → ClauseWithin most c
-clause-wider few most h [] g = tt
-clause-wider few most h (l ∷ c) g = (g .0, le-trans (g .1) h, clause-wider few most h c (g .2))
+clause-wider few most h = clause-of-wider (UpTo few) (UpTo most) (up-to-wider few most h)
 
 pub within-wider : (few most : ℕ) → few ≤ most → (cs : List Clause) → Within few cs → Within most cs
-within-wider few most h cs g = within most cs (λ c i. clause-wider few most h c (clause-at few c cs g i))
+within-wider few most h = clauses-of-wider (UpTo few) (UpTo most) (up-to-wider few most h)
 
-pub within-append : (most : ℕ) (cs ds : List Clause) → Within most cs → Within most ds → Within most (cs ++ ds)
-within-append most cs ds g h = within most (cs ++ ds) (λ c i. either c (in-append-cases c cs ds i))
+-- a variable of the present moment is one of 1..2n+m
+pub present-within : (n m : ℕ) (cs : List Clause) → ClausesOf (Present n m) cs → Within (n + n + m) cs
+present-within n m = clauses-of-wider (Present n m) (UpTo (n + n + m)) wide
   where
-    either : (c : Clause) → In c cs ⊎ In c ds → ClauseWithin most c
-    either c (inl i) = clause-at most c cs g i
-    either c (inr i) = clause-at most c ds h i
+    wide : (v : ℕ) → Present n m v → UpTo (n + n + m) v
+    wide v (inl g) = (g .0, let h = g .1 in omega arith)
+    wide v (inr g) = (let h = g .0 in omega arith, g .1)

@@ -44,17 +44,17 @@ module _ (most : ℕ) (v u : Setting) (a : Agree most v u) where
   same-true : (c : Clause) → ClauseWithin most c → has-true v c ≡ has-true u c
   unfolding has-true any
   same-true [] h = refl
-  same-true (l ∷ c) h = cc (same-value l (h .1), same-true c (h .2))
+  same-true (l ∷ c) h = cc (same-value l (h .0 .1), same-true c (h .1))
 
   same-false : (c : Clause) → ClauseWithin most c → only-false v c ≡ only-false u c
   unfolding only-false all
   same-false [] h = refl
-  same-false (l ∷ c) h = cc (same-value l (h .1), same-false c (h .2))
+  same-false (l ∷ c) h = cc (same-value l (h .0 .1), same-false c (h .1))
 
   same-places : (c : Clause) → ClauseWithin most c → unset-places v c ≡ unset-places u c
   unfolding unset-places
   same-places [] h = refl
-  same-places (l ∷ c) h = cc (same-value l (h .1), same-places c (h .2))
+  same-places (l ∷ c) h = cc (same-value l (h .0 .1), same-places c (h .1))
 
   same-move : (cs : List Clause) → Within most cs → move cs v ≡ move cs u
   unfolding move any all first-of forced-by open-in

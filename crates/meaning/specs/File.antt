@@ -24,9 +24,10 @@ clauses-most = 4096
 abbrev pub lemmas-most : ℕ
 lemmas-most = 128
 
--- which variables a body may name: none, those of the state (1..n), or every one (1..2n+m)
+-- which variables a body may name: none, those of the state (1..n), those of the present moment (the state's, and inputs and helpers, so all
+-- but next values), or every one
 pub data Class : Type 0 where
-  nothing state every : Class
+  nothing state present every : Class
 
 -- what a kind may hold: shortest and longest body, whether its length is even, its variables, and how many records of it there may be
 pub record Kind : Type 0 where
@@ -48,7 +49,7 @@ kind-table =
     record { shortest = 4; longest = 4; even = true; class = nothing; most = 1 } ∷
     record { shortest = 0; longest = 128; even = true; class = state; most = clauses-most } ∷
     record { shortest = 0; longest = 128; even = true; class = every; most = clauses-most } ∷
-    record { shortest = 0; longest = 128; even = true; class = state; most = clauses-most } ∷
+    record { shortest = 0; longest = 128; even = true; class = present; most = clauses-most } ∷
     record { shortest = 0; longest = 128; even = true; class = state; most = lemmas-most } ∷
     record { shortest = 0; longest = 0; even = true; class = nothing; most = 1 } ∷
     []
@@ -73,26 +74,32 @@ unfoldable pub literals : List ℕ → ℕ → ℕ → Clause
 literals file at zero = []
 literals file at (suc count) = literal-at file at ∷ literals file (at + 2) count
 
--- the largest variable that a class names
-unfoldable pub largest-variable : Class → ℕ → ℕ → ℕ
-largest-variable nothing n m = 0
-largest-variable state n m = n
-largest-variable every n m = n + n + m
+-- v is one of low..high
+unfoldable pub between : ℕ → ℕ → ℕ → Bool
+between low high v = leb low v && leb v high
+
+-- the variables that a class names, where there are n state variables and m inputs and helpers
+unfoldable pub names : Class → ℕ → ℕ → ℕ → Bool
+names nothing n m v = false
+names state n m v = between 1 n v
+names present n m v = between 1 n v || between (n + n + 1) (n + n + m) v
+names every n m v = between 1 (n + n + m) v
 
 -- how many literals a body of a class and a length holds
 unfoldable pub literal-count : Class → ℕ → ℕ
 literal-count nothing len = 0
 literal-count state len = len / 2
+literal-count present len = len / 2
 literal-count every len = len / 2
 
--- literal 0 or variable too large
-unfoldable pub offends : ℕ → Literal → Bool
-offends most l = eqb (variable l) 0 || ltb most (variable l)
+-- a literal that names none of the variables it may name: 0, one too large, or a next value where there may be none
+unfoldable pub offends : (ℕ → Bool) → Literal → Bool
+offends may l = not (may (variable l))
 
 -- how many literals stand before the first that offends, of so many
-unfoldable pub before-offence : ℕ → List Literal → ℕ
-before-offence most [] = 0
-before-offence most (l ∷ ls) = cond (offends most l) 0 (suc (before-offence most ls))
+unfoldable pub before-offence : (ℕ → Bool) → List Literal → ℕ
+before-offence may [] = 0
+before-offence may (l ∷ ls) = cond (offends may l) 0 (suc (before-offence may ls))
 
 -- What is known where a record must start: its place, the kind before it (0: there is none) and how many of that kind there were, the
 -- clause records so far (kinds 2 to 5 together), and n and m
@@ -124,6 +131,7 @@ same-kind file w = cond (eqb (kind-at file w) (w .before)) (w .of-kind) 0
 unfoldable pub is-clause : Class → Bool
 is-clause nothing = false
 is-clause state = true
+is-clause present = true
 is-clause every = true
 
 -- 2: under 4 bytes where a record must start
@@ -152,16 +160,16 @@ too-many row same clauses = leb (row .most) same || (is-clause (row .class) && l
 unfoldable pub counts-wrong : ℕ → ℕ → ℕ → Bool
 counts-wrong kind n m = eqb kind 1 && (ltb n 1 || ltb n-most n || ltb m-most m)
 
--- the literals of a record's body, and the largest variable that it may name
+-- the literals of a record's body, and the variables that it may name
 unfoldable pub body-literals : List ℕ → Reader → Clause
 body-literals file w = literals file (body-at w) (literal-count (row-at file w .class) (body-length file w))
 
-unfoldable pub body-most : List ℕ → Reader → ℕ
-body-most file w = largest-variable (row-at file w .class) (w .n) (w .m)
+unfoldable pub body-names : List ℕ → Reader → ℕ → Bool
+body-names file w = names (row-at file w .class) (w .n) (w .m)
 
 -- the place of the first literal that offends
 unfoldable pub offence-at : List ℕ → Reader → ℕ
-offence-at file w = body-at w + 2 * before-offence (body-most file w) (body-literals file w)
+offence-at file w = body-at w + 2 * before-offence (body-names file w) (body-literals file w)
 
 -- A refusal: its number and its place
 pub record Refusal : Type 0 where
@@ -186,7 +194,7 @@ record-rules file w =
     rule-if (body-short file w) 2 (w .at) ∷
     rule-if (too-many (row-at file w) (same-kind file w) (w .clauses)) 7 (w .at) ∷
     rule-if (counts-wrong (kind-at file w) (two-at file (body-at w)) (two-at file (body-at w + 2))) 5 (w .at) ∷
-    rule-if (any (offends (body-most file w)) (body-literals file w)) 6 (offence-at file w) ∷
+    rule-if (any (offends (body-names file w)) (body-literals file w)) 6 (offence-at file w) ∷
     []
 
 unfoldable pub refuse-if : Bool → Refusal → Option Refusal → Option Refusal

@@ -33,9 +33,10 @@ moment n s t x v = cond (leb v n) (s v) (cond (leb v (n + n)) (t (v - n)) (x (v 
 abbrev pub InitState : Problem → State → Type 0
 InitState p s = all-hold s (p .init) ≡ true
 
--- a bad state is one where all Bad clauses hold
+-- A state is bad if some values of inputs and helpers satisfy all Bad clauses. Bad names no next value, so which state stands for the next
+-- one is nothing to it (`bad-any-next` in `laws`); here it is the state itself.
 abbrev pub BadState : Problem → State → Type 0
-BadState p s = all-hold s (p .bad) ≡ true
+BadState p s = (x : Values) × (all-hold (moment (p .n) s s x) (p .bad) ≡ true)
 
 -- A step goes from one state to a next one, itself included, if some values of inputs and helpers satisfy all Tr clauses.
 abbrev pub Step : Problem → State → State → Type 0
@@ -86,7 +87,7 @@ Initiation p S = (s : State) → InitState p s → AllOf p S s
 abbrev pub Inductive : Problem → Marks → Type 0
 Inductive p S = Initiation p S × ((s t : State) → Step p s t → AllOf p S s → AllOf p S t)
 
--- S is safe if no state satisfies all of S and all of Bad
+-- S is safe if no state where all of S hold is bad
 abbrev pub Safe : Problem → Marks → Type 0
 Safe p S = (s : State) → AllOf p S s → BadState p s → ⊥
 

@@ -111,10 +111,25 @@ pinned =
     refused (counts 2 3 ++ record-bytes 3 (two 65528) ++ end) 6 12 ∷
     refused (counts 2 0 ++ record-bytes 2 (two 2 ++ two 0 ++ two 3) ++ end) 6 14 ∷
     refused (counts 2 0 ++ record-bytes 2 (two 3) ++ end) 6 12 ∷
-    refused (counts 2 0 ++ record-bytes 4 (two 65533) ++ end) 6 12 ∷
     refused (counts 2 0 ++ record-bytes 5 (two 32768) ++ end) 6 12 ∷
+    -- 6 in a Bad clause: 1..n and 2n+1..2n+m are read; n+1 and 2n, next values, and 2n+m+1 are not
+    accepted (counts 3 2 ++ record-bytes 4 (two 1 ++ two 3 ++ two 7 ++ two 65528) ++ end) 3 2 0 ∷
+    refused (counts 3 2 ++ record-bytes 4 (two 0) ++ end) 6 12 ∷
+    refused (counts 3 2 ++ record-bytes 4 (two 3 ++ two 4) ++ end) 6 14 ∷
+    refused (counts 3 2 ++ record-bytes 4 (two 65529 ++ two 65530) ++ end) 6 14 ∷
+    refused (counts 3 2 ++ record-bytes 4 (two 8 ++ two 9) ++ end) 6 14 ∷
+    refused (counts 3 2 ++ record-bytes 4 (two 7 ++ two 32768) ++ end) 6 14 ∷
+    accepted (counts 2 0 ++ record-bytes 4 (two 2) ++ end) 2 0 0 ∷
+    refused (counts 2 0 ++ record-bytes 4 (two 65533) ++ end) 6 12 ∷
+    refused (counts 2 0 ++ record-bytes 4 (two 65534 ++ two 65533) ++ end) 6 14 ∷
+    refused (counts 2 0 ++ record-bytes 4 (two 4) ++ end) 6 12 ∷
+    refused (counts 2 0 ++ record-bytes 4 (two 5) ++ end) 6 12 ∷
+    -- inputs are for Tr and Bad alone
+    refused (counts 3 2 ++ record-bytes 2 (two 7) ++ end) 6 12 ∷
+    refused (counts 3 2 ++ record-bytes 5 (two 7) ++ end) 6 12 ∷
     -- one record before the next: 6 of the first, and not 3 of the second
     refused (counts 1 0 ++ record-bytes 3 (two 0) ++ record-bytes 2 []) 6 12 ∷
+    refused (counts 1 1 ++ record-bytes 4 (two 2) ++ record-bytes 3 []) 6 12 ∷
     -- 8, whatever the bytes are
     refused (counts 1 0 ++ end ++ (0 ∷ [])) 8 12 ∷
     refused (counts 1 0 ++ end ++ end) 8 12 ∷
@@ -122,5 +137,5 @@ pinned =
 
 -- each call of the table comes to what stands beside it
 pub pinned-hold : map run-line pinned ≡ map outcome-of pinned
-unfolding refused accepted L-cut L counts lemmas end head pinned Clauses.variable Clauses.negation Clauses.is-true Clauses.any Clauses.all Clauses.holds Clauses.all-hold Meaning.k Meaning.moment Meaning.has Meaning.at-marks Meaning.lemmas-of File.no-kind File.kind-table File.kind-row File.two-at File.signed File.literal-at File.literals File.largest-variable File.literal-count File.offends File.before-offence File.body-length File.kind-at File.body-at File.row-at File.same-kind File.is-clause File.head-short File.kind-wrong File.length-wrong File.body-short File.too-many File.counts-wrong File.body-literals File.body-most File.offence-at File.rule-if File.record-rules File.refuse-if File.first-wrong File.span-at File.one-if-clause File.past File.and-before File.at-end File.unless-end File.unless-refused File.walk File.at-start File.walked File.clause-of File.keep-if File.of-kind File.clauses-of File.problem-of File.reading-of File.read Calls.refusal Calls.answered Calls.checked Calls.on-reading Calls.mark Calls.written Calls.marked Calls.within Calls.with-room Calls.row-or-stop Calls.cut Calls.listed Calls.largest-job Calls.one-job Calls.list-job Calls.check-call Calls.largest-call Calls.one-call Calls.list-call Cases.two Cases.literal-bytes Cases.clause-bytes Cases.record-bytes Cases.clause-records Cases.file-of Cases.takes Cases.unit Cases.case-A Cases.case-B Cases.case-E Cases.case-F Cases.case-H Cases.case-J Cases.case-counted Cases.case-initial Cases.line Cases.run-line Cases.outcome-of Cases.sevens Cases.plenty Cases.starred
+unfolding refused accepted L-cut L counts lemmas end head pinned Clauses.variable Clauses.negation Clauses.is-true Clauses.any Clauses.all Clauses.holds Clauses.all-hold Meaning.k Meaning.moment Meaning.has Meaning.at-marks Meaning.lemmas-of File.no-kind File.kind-table File.kind-row File.two-at File.signed File.literal-at File.literals File.between File.names File.literal-count File.offends File.before-offence File.body-length File.kind-at File.body-at File.row-at File.same-kind File.is-clause File.head-short File.kind-wrong File.length-wrong File.body-short File.too-many File.counts-wrong File.body-literals File.body-names File.offence-at File.rule-if File.record-rules File.refuse-if File.first-wrong File.span-at File.one-if-clause File.past File.and-before File.at-end File.unless-end File.unless-refused File.walk File.at-start File.walked File.clause-of File.keep-if File.of-kind File.clauses-of File.problem-of File.reading-of File.read Calls.refusal Calls.answered Calls.checked Calls.on-reading Calls.mark Calls.written Calls.marked Calls.within Calls.with-room Calls.row-or-stop Calls.cut Calls.listed Calls.largest-job Calls.one-job Calls.list-job Calls.check-call Calls.largest-call Calls.one-call Calls.list-call Cases.two Cases.literal-bytes Cases.clause-bytes Cases.record-bytes Cases.clause-records Cases.file-of Cases.takes Cases.unit Cases.case-A Cases.case-B Cases.case-E Cases.case-F Cases.case-H Cases.case-J Cases.case-counted Cases.case-initial Cases.line Cases.run-line Cases.outcome-of Cases.sevens Cases.plenty Cases.starred
 pinned-hold = refl

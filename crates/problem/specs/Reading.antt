@@ -10,7 +10,8 @@ use lib.ListN.{length}
 use lib.Dec.{eqb}
 use borrow.Author.Tests.{lt-ltb, le-ltb, eq-eqb, ne-eqb}
 use Rattle.meaning.specs.File.{Reader, Refusal, Span, Walked, refused, records, accepted, rejected, read, walked, walk, at-start, at-end, past, span-at, kind-at, record-rules, first-wrong, and-before, unless-refused, unless-end, reading-of, problem-of, kind-row, kind-table, no-kind, file-most}
-use Rattle.laws.specs.Accepted.{kept, accepted-well-formed}
+use Rattle.laws.specs.Accepted.{kept}
+use Rattle.laws.specs.Named.{accepted-well-formed}
 use Rattle.format.specs.Section.{problem-at, Placed}
 use Rattle.problem.specs.declared.sections.Sections.{Sections}
 use Rattle.problem.specs.Records.{Few, sections-past, no-sections, problem-from}

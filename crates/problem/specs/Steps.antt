@@ -9,7 +9,7 @@ use lib.ListN.{length, drop}
 use lib.Dec.{ltb, eqb}
 use borrow.Author.Tests.{ltb-false, lt-ltb, le-ltb}
 use Rattle.meaning.specs.Clauses.{any}
-use Rattle.meaning.specs.File.{Reader, Rule, Refusal, Kind, Class, nothing, state, every, first-wrong, refuse-if, rule-if, record-rules, head-short, kind-wrong, length-wrong, body-short, too-many, counts-wrong, offends, before-offence, body-most, body-literals, offence-at, past, kind-at, kind-row, kind-table, no-kind, row-at, same-kind, body-at, body-length, two-at, literals, literal-count, largest-variable, one-if-clause}
+use Rattle.meaning.specs.File.{Reader, Rule, Refusal, Kind, Class, nothing, state, present, every, first-wrong, refuse-if, rule-if, record-rules, head-short, kind-wrong, length-wrong, body-short, too-many, counts-wrong, offends, before-offence, body-names, body-literals, offence-at, past, kind-at, kind-row, kind-table, no-kind, row-at, same-kind, body-at, body-length, two-at, literals, literal-count, names, one-if-clause}
 use Rattle.laws.specs.Accepted.{kind-kept}
 use Rattle.problem.specs.declared.rules.Step.{Step}
 use Rattle.problem.specs.declared.rules.Step.the-variants.{Stop, Past}
@@ -63,14 +63,14 @@ module _ (file : List ℕ) (w : Reader) where
 
   pub literal-stops : too-many (row-at file w) (same-kind file w) (w .clauses) ≡ false
       → counts-wrong (kind-at file w) (two-at file (body-at w)) (two-at file (body-at w + 2)) ≡ false
-      → any (offends (body-most file w)) (body-literals file w) ≡ true
+      → any (offends (body-names file w)) (body-literals file w) ≡ true
       → first-wrong (drop 4 (record-rules file w)) ≡ refused-by 6 (offence-at file w)
   unfolding first-wrong refuse-if record-rules rule-if
   literal-stops e₁ e₂ e₃ = rw (e₁, e₂, e₃)
 
   pub body-passes : too-many (row-at file w) (same-kind file w) (w .clauses) ≡ false
       → counts-wrong (kind-at file w) (two-at file (body-at w)) (two-at file (body-at w + 2)) ≡ false
-      → any (offends (body-most file w)) (body-literals file w) ≡ false
+      → any (offends (body-names file w)) (body-literals file w) ≡ false
       → first-wrong (drop 4 (record-rules file w)) ≡ none
   unfolding first-wrong refuse-if record-rules rule-if
   body-passes e₁ e₂ e₃ = rw (e₁, e₂, e₃)
@@ -137,6 +137,7 @@ pub literals-fit : (class : Class) (len : ℕ) → 2 * literal-count class len �
 unfolding literal-count
 literals-fit nothing len = omega arith
 literals-fit state len = omega arith
+literals-fit present len = omega arith
 literals-fit every len = omega arith
 
 -- as many of a kind as there were, or none
@@ -179,10 +180,9 @@ module _ {file : List ℕ} {w : Reader} {len kind : ℕ} (h : Headed file w len 
         (e ∙ ap (λ (q : ℕ). cond (eqb q (w .before)) (w .of-kind) 0) (h .kind-is))) ∙
         sym t ∙ f
 
-    -- 6, as the code finds it: the literals, the largest variable, and how many stand before the first that offends
-    module _ {count most offence : ℕ} (is-count : count ≡ literal-count (row .class) len)
-        (is-most : most ≡ largest-variable (row .class) (w .n) (w .m))
-        (is-offence : offence ≡ before-offence most (literals file (w .at + 4) count)) where
+    -- 6, as the code finds it: the literals, and how many stand before the first that offends
+    module _ {count offence : ℕ} (is-count : count ≡ literal-count (row .class) len)
+        (is-offence : offence ≡ before-offence (names (row .class) (w .n) (w .m)) (literals file (w .at + 4) count)) where
       literals-here : literals file (w .at + 4) count ≡ body-literals file w
       unfolding body-literals body-at
       literals-here =
@@ -193,23 +193,22 @@ module _ {file : List ℕ} {w : Reader} {len kind : ℕ} (h : Headed file w len 
       count-here : count ≡ length (body-literals file w)
       count-here = sym (length-literals file (w .at + 4) count) ∙ ap length literals-here
 
-      offence-here : offence ≡ before-offence (body-most file w) (body-literals file w)
-      unfolding body-most
+      offence-here : offence ≡ before-offence (body-names file w) (body-literals file w)
+      unfolding body-names
       offence-here =
-          is-offence ∙ ap (before-offence most) literals-here ∙
-          ap (λ (v : ℕ). before-offence v (body-literals file w)) is-most ∙
-          ap (λ (r : Kind). before-offence (largest-variable (r .class) (w .n) (w .m)) (body-literals file w)) row-here
+          is-offence ∙ ap (before-offence (names (row .class) (w .n) (w .m))) literals-here ∙
+          ap (λ (r : Kind). before-offence (names (r .class) (w .n) (w .m)) (body-literals file w)) row-here
 
-      pub some-offends : offence < count → any (offends (body-most file w)) (body-literals file w) ≡ true
+      pub some-offends : offence < count → any (offends (body-names file w)) (body-literals file w) ≡ true
       some-offends less =
-          any-offends (body-most file w) (body-literals file w) ∙
-          lt-ltb (before-offence (body-most file w) (body-literals file w)) (length (body-literals file w))
+          any-offends (body-names file w) (body-literals file w) ∙
+          lt-ltb (before-offence (body-names file w) (body-literals file w)) (length (body-literals file w))
           (omega (arith, less, count-here, offence-here))
 
-      pub none-offends : count ≤ offence → any (offends (body-most file w)) (body-literals file w) ≡ false
+      pub none-offends : count ≤ offence → any (offends (body-names file w)) (body-literals file w) ≡ false
       none-offends most-passed =
-          any-offends (body-most file w) (body-literals file w) ∙
-          le-ltb (before-offence (body-most file w) (body-literals file w)) (length (body-literals file w))
+          any-offends (body-names file w) (body-literals file w) ∙
+          le-ltb (before-offence (body-names file w) (body-literals file w)) (length (body-literals file w))
           (omega (arith, most-passed, count-here, offence-here))
 
       pub place-here : w .at + 4 + 2 * offence ≡ offence-at file w

@@ -5,11 +5,11 @@ use format::Literal;
 use format::Problem;
 use format::Row;
 ghost use mathlib.Core.Path.{_≡_};
-ghost use mathlib.Core.Bool.{_||_, cond};
+ghost use mathlib.Core.Bool.{cond};
 ghost use Prim.Native.Nat.{_+_, _*_, _<_, _≤_};
 ghost use lib.ListN.{length, drop};
-ghost use lib.Dec.{eqb, ltb};
-ghost use Rattle.meaning.specs.File.{«at-start», past, «record-rules», «kind-wrong», «length-wrong», «too-many», «counts-wrong», «two-at», literals, offends, «before-offence», «is-clause», «literal-count», «largest-variable», «one-if-clause»};
+ghost use lib.Dec.{eqb};
+ghost use Rattle.meaning.specs.File.{«at-start», past, «record-rules», «kind-wrong», «length-wrong», «too-many», «counts-wrong», «two-at», literals, offends, «before-offence», «is-clause», «literal-count», between, names, «one-if-clause»};
 ghost use Rattle.format.specs.Forms.{«kind-of», «class-of», «literal-of»};
 ghost use Rattle.problem.specs.Records.{«reader-of», Sane, Headed, Stepped};
 
@@ -84,6 +84,7 @@ fn is_clause(class: Class) -> bool
     match class {
         Class::Nothing => false,
         Class::State => true,
+        Class::Present => true,
         Class::Every => true,
     }
 }
@@ -126,15 +127,31 @@ fn counts_wrong(file: &[u8], kind: usize, body: usize) -> bool
     Problem::M_MOST < format::two_at(file, body + 2)
 }
 
-// The largest variable that a class names.
-fn largest_variable(class: Class, n: usize, m: usize) -> usize
+// The variable is one of low..high.
+fn between(low: usize, high: usize, v: usize) -> bool
+    ensures { λ r. ⌜ r ≡ between low high v ⌝ }
+{
+    if v < low {
+        return false;
+    }
+    v <= high
+}
+
+// Whether a class names a variable.
+fn names(class: Class, n: usize, m: usize, v: usize) -> bool
     requires { do ⌜ (n ≤ (← ⟦Problem::N_MOST⟧)) × (m ≤ (← ⟦Problem::M_MOST⟧)) ⌝ }
-    ensures { λ r. ⌜ r ≡ «largest-variable» («class-of» class) n m ⌝ }
+    ensures { λ r. ⌜ r ≡ names («class-of» class) n m v ⌝ }
 {
     match class {
-        Class::Nothing => 0,
-        Class::State => n,
-        Class::Every => n + n + m,
+        Class::Nothing => false,
+        Class::State => between(1, n, v),
+        Class::Present => {
+            if between(1, n, v) {
+                return true;
+            }
+            between(n + n + 1, n + n + m, v)
+        }
+        Class::Every => between(1, n + n + m, v),
     }
 }
 
@@ -145,37 +162,31 @@ fn literal_count(class: Class, len: usize) -> usize
     match class {
         Class::Nothing => 0,
         Class::State => len / 2,
+        Class::Present => len / 2,
         Class::Every => len / 2,
     }
 }
 
-// Literal 0 or variable too large.
-fn out_of_range(most: usize, v: usize) -> bool
-    ensures { λ r. ⌜ r ≡ (eqb v 0 || ltb most v) ⌝ }
-{
-    if v == 0 {
-        return true;
-    }
-    most < v
-}
-
-fn offends(most: usize, l: Literal) -> bool
-    ensures { λ r. ⌜ r ≡ offends most («literal-of» l) ⌝ }
+// A literal that names none of the variables of its class.
+fn offends(class: Class, n: usize, m: usize, l: Literal) -> bool
+    requires { do ⌜ (n ≤ (← ⟦Problem::N_MOST⟧)) × (m ≤ (← ⟦Problem::M_MOST⟧)) ⌝ }
+    ensures { λ r. ⌜ r ≡ offends (names («class-of» class) n m) («literal-of» l) ⌝ }
 {
     match l {
-        Literal::Pos(v) => out_of_range(most, v),
-        Literal::Neg(v) => out_of_range(most, v),
+        Literal::Pos(v) => !names(class, n, m, v),
+        Literal::Neg(v) => !names(class, n, m, v),
     }
 }
 
 // 6: how many literals stand before the first that offends.
-fn before_offence(file: &[u8], at: usize, count: usize, most: usize) -> usize
+fn before_offence(file: &[u8], at: usize, count: usize, class: Class, n: usize, m: usize) -> usize
     requires { ⌜ (at + 2 * count ≤ length (now file)) ⌝ }
-    ensures { λ r. ⌜ r ≡ «before-offence» most (literals (now (file .entry)) at count) ⌝ }
+    requires { do ⌜ (n ≤ (← ⟦Problem::N_MOST⟧)) × (m ≤ (← ⟦Problem::M_MOST⟧)) ⌝ }
+    ensures { λ r. ⌜ r ≡ «before-offence» (names («class-of» class) n m) (literals (now (file .entry)) at count) ⌝ }
 {
     let mut i = 0;
     while i < count {
-        if offends(most, format::literal_at(file, at + 2 * i)) {
+        if offends(class, n, m, format::literal_at(file, at + 2 * i)) {
             return i;
         }
         i += 1;
@@ -241,7 +252,7 @@ fn body_of(file: &[u8], w: Cursor, len: usize, kind: usize) -> Step
     }
     let class = row.class;
     let count = literal_count(class, len);
-    let offence = before_offence(file, body, count, largest_variable(class, w.n, w.m));
+    let offence = before_offence(file, body, count, class, w.n, w.m);
     if offence < count {
         return Step::Stop(6, body + 2 * offence);
     }

@@ -13,8 +13,8 @@ use Rattle.meaning.specs.Meaning.{at-marks}
 use Rattle.meaning.specs.File.{literals}
 use Rattle.meaning.specs.Search.{Setting, with-literal, Ending, lost, then-false}
 use Rattle.meaning.specs.Rules.{denied, next, answer}
-use Rattle.laws.specs.Within.{Within}
-use Rattle.laws.specs.Range.{within-append}
+use Rattle.laws.specs.Within.{UpTo, Within}
+use Rattle.laws.specs.Range.{of-append}
 use Rattle.laws.specs.Marked.{marks-within}
 use Rattle.laws.specs.Questions.{denied-within}
 use Rattle.laws.specs.Setting.{length-with}
@@ -50,10 +50,10 @@ module _ (file : List ℕ) (on : List Bool) (q : Parts) where
   pub parts-within : Sound file q → Within 512 (parts-clauses file on q)
   unfolding parts-clauses
   parts-within s =
-      within-append 512 first (lemmas ++ (last ++ deny)) (s .first .within)
-      (within-append 512 lemmas (last ++ deny)
+      of-append (UpTo 512) first (lemmas ++ (last ++ deny)) (s .first .within)
+      (of-append (UpTo 512) lemmas (last ++ deny)
       (marks-within 512 on (section file (q .«lemmas_at») (q .«lemmas_count»)) (s .lemmas .within))
-      (within-append 512 last deny (s .last .within)
+      (of-append (UpTo 512) last deny (s .last .within)
       (denied-within 512 (map (next (q .added)) (literals file (q .«denied_at») (q .«denied_count»))) (s .deny .within))))
 
   -- one part after another

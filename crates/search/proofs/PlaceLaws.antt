@@ -38,10 +38,10 @@ module _ (file : List ℕ) (at left : ℕ) (h : 0 < left) (r : Literals file at 
   literal-inside = let i : at + 2 * left ≤ length file = r .inside in omega arith
 
   pub literal-range : variable (literal-at file at) < 513
-  literal-range = let i : variable (literal-at file at) ≤ 512 = first-within .1 in omega arith
+  literal-range = let i : variable (literal-at file at) ≤ 512 = first-within .0 .1 in omega arith
 
   pub literals-next : Literals file (at + 2) (left - 1)
-  literals-next = let i : at + 2 * left ≤ length file = r .inside in record { inside = omega arith; within = first-within .2 }
+  literals-next = let i : at + 2 * left ≤ length file = r .inside in record { inside = omega arith; within = first-within .1 }
 
 -- a literal of a clause is read, and its value told as an entry
 
@@ -155,15 +155,15 @@ module _ (file : List ℕ) (at left added : ℕ) (h : 0 < left) (r : Denials fil
 
   pub denial-range : added + variable (literal-at file at) < 513
   denial-range =
-      let i : variable (next added (literal-at file at)) ≤ 512 = shifted-within .1 in
+      let i : variable (next added (literal-at file at)) ≤ 512 = shifted-within .0 .1 in
       omega (arith, variable-next added (literal-at file at))
 
   -- the clause of the one literal that is denied
   pub denial-within : ClauseWithin 512 (negation (next added (literal-at file at)) ∷ [])
-  denial-within = (rw variable-negation (shifted-within .0), rw variable-negation (shifted-within .1), tt)
+  denial-within = ((rw variable-negation (shifted-within .0 .0), rw variable-negation (shifted-within .0 .1)), tt)
 
   pub denials-next : Denials file (at + 2) (left - 1) added
-  denials-next = let i : at + 2 * left ≤ length file = r .inside in record { inside = omega arith; within = shifted-within .2 }
+  denials-next = let i : at + 2 * left ≤ length file = r .inside in record { inside = omega arith; within = shifted-within .1 }
 
 pub denied-done : (file : List ℕ) (at left added : ℕ) → left ≤ 0 → denied (map (next added) (literals file at left)) ≡ []
 unfolding literals denied

@@ -14,7 +14,7 @@ use Rattle.meaning.specs.Search.{blank, search-from, searched}
 use Rattle.meaning.specs.Rules.{denied, next, lemma, clauses, width, answer, asked}
 use Rattle.meaning.specs.Rules
 use Rattle.laws.specs.Within.{ClauseWithin}
-use Rattle.laws.specs.Range.{clause-wider, within-wider}
+use Rattle.laws.specs.Range.{clause-wider, within-wider, present-within}
 use Rattle.laws.specs.Setting.{unset-blank}
 use Rattle.laws.specs.Questions.{next-within, lemma-within, clauses-within}
 use Rattle.laws.specs.Wider.{wider}
@@ -98,11 +98,13 @@ module _ (file : List ℕ) (p : Problem) (placed : Placed file p) where
       }
 
   bad-records : Records file (p .«bad_at») (p .«bad_count»)
-  unfolding problem-at
+  unfolding problem-at width
   bad-records =
       record {
         inside = placed .bad-in;
-        within = within-wider (p .n) 512 (omega (arith, n-small)) (section file (p .«bad_at») (p .«bad_count»)) (placed .well-formed .bad);
+        within =
+            within-wider (width (problem-at file p)) 512 width-small (section file (p .«bad_at») (p .«bad_count»))
+            (present-within (p .n) (p .m) (section file (p .«bad_at») (p .«bad_count»)) (placed .well-formed .bad));
       }
 
   lemma-records : Records file (p .«lemmas_at») (p .k)

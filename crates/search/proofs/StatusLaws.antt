@@ -8,7 +8,7 @@ use mathlib.Core.List.{List, [], _∷_}
 use Rattle.meaning.specs.Clauses.{Literal, Clause, variable, any}
 use Rattle.meaning.specs.Search.{Setting, value, says-true, has-true, only-false, keep-unset, unset-places, only-place, forced-by, first-place, open-in}
 use Rattle.meaning.specs.Demands.{In}
-use Rattle.laws.specs.Within.{ClauseWithin}
+use Rattle.laws.specs.Within.{UpTo, ClauseWithin}
 use Rattle.laws.specs.Range.{literal-at}
 use Rattle.laws.specs.Moves.{UnsetIn, forced-unset, no-place}
 use Rattle.search.specs.Sweep.{Status, met, failed, one, more, seen, by-value, status-from, status}
@@ -63,7 +63,7 @@ pub one-range : (most : ℕ) (v : Setting) (c : Clause) (l : Literal) → Clause
 one-range most v c l h e = in-clause (forced-unset (c ∷ []) v l (c, inl refl, subst (Means v c) e (status-means v c)))
   where
     in-clause : UnsetIn (c ∷ []) v l → variable l ≤ most
-    in-clause (d, inl same, i, u) = literal-at most l c h (subst (λ (x : Clause). In l x) same i) .1
+    in-clause (d, inl same, i, u) = literal-at (UpTo most) l c h (subst (λ (x : Clause). In l x) same i) .1
 
 -- the first of the literals that are left, by its value
 

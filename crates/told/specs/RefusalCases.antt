@@ -14,7 +14,7 @@ use Rattle.text.specs.Filled.{filled}
 use Rattle.told.specs.declared.answers.Job.the-variants.{Check, One, List as Listing}
 use Rattle.told.specs.Lemmas.{literal-text, literals-text, clause-text, lemma-text, lemma-line}
 use Rattle.faults.specs.Places.{kind-there, past, reaches, unless-reached, walk, start-around, around}
-use Rattle.faults.specs.Faults.{cut, literal-fault, number-fault, fault-of, fault-text}
+use Rattle.faults.specs.Faults.{cut, unnamed, literal-fault, number-fault, fault-of, fault-text}
 use Rattle.told.specs.Refusals.{head-text, clause-place, where-text, larger, spent-text, kept-text, reason-text, refusal-line}
 
 -- the file of docs/FORMAT.md, 46 bytes: counts, an Init clause, two Tr clauses, a Bad clause, a lemma, the end
@@ -29,7 +29,7 @@ example =
     0 ∷ 0 ∷ 6 ∷ 0 ∷ []
 
 case-lemma : lemma-line example 0 ≡ ascii "  lemma 0: 1\n"
-unfolding example lemma-line lemma-text clause-text literals-text literal-text filled decimal digits digit Clauses.variable Clauses.any File.no-kind File.kind-table File.kind-row File.two-at File.signed File.literal-at File.literals File.largest-variable File.literal-count File.offends File.before-offence File.body-length File.kind-at File.body-at File.row-at File.same-kind File.is-clause File.head-short File.kind-wrong File.length-wrong File.body-short File.too-many File.counts-wrong File.body-literals File.body-most File.offence-at File.rule-if File.record-rules File.refuse-if File.first-wrong File.span-at File.one-if-clause File.past File.and-before File.at-end File.unless-end File.unless-refused File.walk File.at-start File.walked File.clause-of File.keep-if File.of-kind File.clauses-of File.problem-of File.reading-of File.read
+unfolding example lemma-line lemma-text clause-text literals-text literal-text filled decimal digits digit Clauses.variable Clauses.any File.no-kind File.kind-table File.kind-row File.two-at File.signed File.literal-at File.literals File.between File.names File.literal-count File.offends File.before-offence File.body-length File.kind-at File.body-at File.row-at File.same-kind File.is-clause File.head-short File.kind-wrong File.length-wrong File.body-short File.too-many File.counts-wrong File.body-literals File.body-names File.offence-at File.rule-if File.record-rules File.refuse-if File.first-wrong File.span-at File.one-if-clause File.past File.and-before File.at-end File.unless-end File.unless-refused File.walk File.at-start File.walked File.clause-of File.keep-if File.of-kind File.clauses-of File.problem-of File.reading-of File.read
 case-lemma = refl
 
 case-literals : clause-text (pos 1 ∷ neg 2 ∷ pos 5 ∷ []) ≡ ascii " 1 -2 5\n"
@@ -80,23 +80,28 @@ case-counts = refl
 
 case-state : told (set example 40 15) 6 40
     ≡ ascii "refusal 6 at byte 40, in the lemma at position 0: variable 15, but the file has 1 state variables\n"
-unfolding told report example refusal-line head-text where-text clause-place fault-of fault-text filled decimal digits digit kind-there past reaches unless-reached walk start-around around next-record File.two-at literal-fault File.signed File.literal-at Clauses.variable
+unfolding told report example refusal-line head-text where-text clause-place fault-of fault-text filled decimal digits digit kind-there past reaches unless-reached walk start-around around next-record File.two-at literal-fault unnamed File.no-kind File.kind-table File.kind-row File.signed File.literal-at Clauses.variable
 case-state = refl
 
 case-variable : told (set example 26 40) 6 26
     ≡ ascii "refusal 6 at byte 26, in the Tr clause at position 1: variable 40, but the file has 2*1+0 = 2 variables\n"
-unfolding told report example refusal-line head-text where-text clause-place fault-of fault-text filled decimal digits digit kind-there past reaches unless-reached walk start-around around next-record File.two-at literal-fault File.signed File.literal-at Clauses.variable
+unfolding told report example refusal-line head-text where-text clause-place fault-of fault-text filled decimal digits digit kind-there past reaches unless-reached walk start-around around next-record File.two-at literal-fault unnamed File.no-kind File.kind-table File.kind-row File.signed File.literal-at Clauses.variable
 case-variable = refl
 
 case-zero : told (set example 12 0) 6 12
     ≡ ascii "refusal 6 at byte 12, in the Init clause at position 0: a literal 0, which names no variable\n"
-unfolding told report example refusal-line head-text where-text clause-place fault-of fault-text filled decimal digits digit kind-there past reaches unless-reached walk start-around around next-record File.two-at literal-fault File.signed File.literal-at Clauses.variable
+unfolding told report example refusal-line head-text where-text clause-place fault-of fault-text filled decimal digits digit kind-there past reaches unless-reached walk start-around around next-record File.two-at literal-fault unnamed File.no-kind File.kind-table File.kind-row File.signed File.literal-at Clauses.variable
 case-zero = refl
 
 case-least : told (set (set example 34 0) 35 128) 6 34
-    ≡ ascii "refusal 6 at byte 34, in the Bad clause at position 0: variable 32768, but the file has 1 state variables\n"
-unfolding told report example refusal-line head-text where-text clause-place fault-of fault-text filled decimal digits digit kind-there past reaches unless-reached walk start-around around next-record File.two-at literal-fault File.signed File.literal-at Clauses.variable
+    ≡ ascii "refusal 6 at byte 34, in the Bad clause at position 0: variable 32768, but the file has 2*1+0 = 2 variables\n"
+unfolding told report example refusal-line head-text where-text clause-place fault-of fault-text filled decimal digits digit kind-there past reaches unless-reached walk start-around around next-record File.two-at literal-fault unnamed File.no-kind File.kind-table File.kind-row File.signed File.literal-at Clauses.variable
 case-least = refl
+
+case-next : told (set (set example 34 2) 35 0) 6 34
+    ≡ ascii "refusal 6 at byte 34, in the Bad clause at position 0: variable 2 is the next value of state variable 1, but only state variables, inputs and helpers may stand here\n"
+unfolding told report example refusal-line head-text where-text clause-place fault-of fault-text filled decimal digits digit kind-there past reaches unless-reached walk start-around around next-record File.two-at literal-fault unnamed File.no-kind File.kind-table File.kind-row File.signed File.literal-at Clauses.variable
+case-next = refl
 
 case-behind : told (example ++ (0 ∷ [])) 8 46
     ≡ ascii "refusal 8 at byte 46: bytes behind the end record: 1\n"

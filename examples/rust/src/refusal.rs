@@ -22,7 +22,7 @@ impl Refusal {
             3 => "a record's kind is out of place",
             4 => "a record's length is not allowed for its kind",
             5 => "n or m is out of range",
-            6 => "a literal is 0, or its variable is too large",
+            6 => "a literal is 0, or names a variable that its kind of clause may not",
             7 => "there are more than 4,096 clauses or 128 lemmas",
             8 => "bytes follow the end record",
             9 => "fewer bytes were lent for marks than there are lemmas",

@@ -1,4 +1,4 @@
-//! The bench cases of document 01, and the ledger, through the wrapper.
+//! The bench cases of document 01, the loader whose Bad looks at an input, and the ledger, through the wrapper.
 
 mod common;
 
@@ -127,6 +127,14 @@ fn l_is_46_bytes_no_more_and_no_less() {
 fn m_is_the_most_of_everything() {
     assert_eq!(check(&case("M")), Ok(Accepted { n: 96, m: 320, k: 128 }));
     assert_eq!(one_of("M"), Err(no_place(11, 12_288)));
+}
+
+#[test]
+fn the_checksum_line_may_be_low() {
+    assert_eq!(check(&case("checksum")), Ok(Accepted { n: 3, m: 3, k: 6 }));
+    assert_eq!(largest_of("checksum"), set("111010", 0));
+    assert_eq!(one_of("checksum"), set("000010", 3));
+    assert_eq!(listed("checksum", BUDGET, SPACE), rows(&["011000", "000010"], 24, Ended::Complete));
 }
 
 #[test]

@@ -2,6 +2,7 @@
 
 mod walk;
 
+use second::bench::case;
 use second::file::{read, Clause, Problem};
 use second::jobs::{call, Job, Report};
 use second::mutants::Rules;
@@ -97,6 +98,16 @@ fn a_stopped_listing_holds_the_first_rows_of_the_same_list() {
     }
 }
 
+#[test]
+fn the_checksum_case_walked_has_the_rows_that_are_listed() {
+    let problem = case("checksum").problem();
+    let walk = Walk::of(&problem);
+    assert_eq!(marks(&walk.largest()), [1, 1, 1, 0, 1, 0]);
+    let rows: Vec<Vec<u8>> = walk.minimal_sets().iter().map(|set| marks(set)).collect();
+    assert_eq!(rows, [[0, 1, 1, 0, 0, 0], [0, 0, 0, 0, 1, 0]]);
+    assert!(!walk.reaches_bad());
+}
+
 fn some_clause(problem: &Problem, test: impl Fn(&Clause) -> bool) -> bool {
     let lists = [&problem.init, &problem.tr, &problem.bad, &problem.lemmas];
     lists.into_iter().flatten().any(test)
@@ -108,6 +119,57 @@ fn repeats(clause: &Clause, sign: i16) -> bool {
 
 fn has_equal(list: &[Clause]) -> bool {
     (1..list.len()).any(|at| !list[at].is_empty() && list[..at].contains(&list[at]))
+}
+
+fn is_input(problem: &Problem, literal: i16) -> bool {
+    literal.unsigned_abs() as usize > 2 * problem.n
+}
+
+fn names_input(problem: &Problem, clause: &Clause) -> bool {
+    clause.iter().any(|&literal| is_input(problem, literal))
+}
+
+fn bad_names_input(problem: &Problem) -> bool {
+    problem.bad.iter().any(|clause| names_input(problem, clause))
+}
+
+/// The problem with its inputs and helpers taken out of the Bad clauses: fewer states are bad, or as many.
+fn without_input_literals(problem: &Problem) -> Problem {
+    let mut other = problem.clone();
+    other.bad.iter_mut().for_each(|clause| clause.retain(|&literal| !is_input(problem, literal)));
+    other
+}
+
+/// The problem without the Bad clauses that name an input or helper: more states are bad, or as many.
+fn without_input_clauses(problem: &Problem) -> Problem {
+    let mut other = problem.clone();
+    other.bad.retain(|clause| !names_input(problem, clause));
+    other
+}
+
+fn same_rows(problem: &Problem, other: &Problem) -> bool {
+    Walk::of(problem).minimal_sets() == Walk::of(other).minimal_sets()
+}
+
+#[test]
+fn bad_often_names_inputs_and_safety_depends_on_them_both_ways() {
+    let with_inputs: Vec<Problem> = files().filter(|problem| problem.m > 0).collect();
+    let count = |test: &dyn Fn(&Problem) -> bool| with_inputs.iter().filter(|problem| test(problem)).count();
+    let some_bad = |problem: &Problem, test: &dyn Fn(&Clause) -> bool| problem.bad.iter().any(test);
+    let mixed = |problem: &Problem, clause: &Clause| clause.iter().any(|&literal| !is_input(problem, literal));
+    let alone = |problem: &Problem, clause: &Clause| names_input(problem, clause) && !mixed(problem, clause);
+    let counts = [
+        count(&|problem| some_bad(problem, &|clause| names_input(problem, clause) && mixed(problem, clause))),
+        count(&|problem| some_bad(problem, &|clause| alone(problem, clause))),
+        count(&|problem| some_bad(problem, &|clause| alone(problem, clause) && repeats(clause, 1))),
+        count(&|problem| some_bad(problem, &|clause| alone(problem, clause) && repeats(clause, -1))),
+        count(&|problem| !same_rows(problem, &without_input_literals(problem))),
+        count(&|problem| !same_rows(problem, &without_input_clauses(problem))),
+    ];
+    let (named, all) = (count(&bad_names_input), with_inputs.len());
+    println!("{named} of {all}, {counts:?}");
+    assert!(3 * named >= all && 2 * named <= all, "{named} of {all}");
+    assert!(counts.iter().all(|&found| found >= 200), "{counts:?}");
 }
 
 #[test]

@@ -1,4 +1,5 @@
-//! The definitions of document 01 by walking all states, all steps and all subsets. No search is used.
+//! The definitions of document 01, with the bad states of request 2026-01, by walking all states, all steps, all
+//! values of inputs and helpers and all subsets. No search is used.
 
 use second::file::{Clause, Problem};
 
@@ -28,16 +29,14 @@ impl Walk {
         let states = 1 << problem.n;
         let whole = |clauses: &[Clause]| (0..states).map(|state| all_hold(clauses, state)).collect();
         let pairs = (0..states).flat_map(|from| (0..states).map(move |to| (from, to)));
-        let is_step = |from: usize, to: usize| {
-            (0..1 << problem.m).any(|helpers: usize| {
-                let values = from | to << problem.n | helpers << (2 * problem.n);
-                all_hold(&problem.tr, values)
-            })
+        let some_helpers = |clauses: &[Clause], values: usize| {
+            (0..1 << problem.m).any(|helpers: usize| all_hold(clauses, values | helpers << (2 * problem.n)))
         };
+        let is_step = |from: usize, to: usize| some_helpers(&problem.tr, from | to << problem.n);
         Walk {
             states,
             init: whole(&problem.init),
-            bad: whole(&problem.bad),
+            bad: (0..states).map(|state| some_helpers(&problem.bad, state)).collect(),
             steps: pairs.filter(|&(from, to)| is_step(from, to)).collect(),
             lemmas: problem.lemmas.iter().map(|lemma| whole(std::slice::from_ref(lemma))).collect(),
         }

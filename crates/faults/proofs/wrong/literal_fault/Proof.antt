@@ -22,29 +22,17 @@ returns c = rw (← its-variable (c .before), eq-eqb (c .before .variable-of .re
 returns-2 : tie.Need-returns-2
 unfolding literal-fault
 returns-2 c =
-    let s = c .before .before .before .around in
+    let found = c .before .before .around in
     let v = c .before .before .before .before .before .before in
     rw (
       ← its-variable v,
-      ← s .ensures,
+      ← found .ensures,
       ← c .before .before .before .before .word-at2 .ensures .0,
-      ← c .word-at3 .ensures .0,
+      ← c .before .before .before .word-at3 .ensures .0,
+      ← c .before .class-there .ensures,
       ne-eqb (v .variable-of .result) 0 (c .before .before .before .before .before .if1 .left),
-      eq-eqb (s .result .kind) 3 (c .before .if2 .taken),
     )
-
-returns-3 : tie.Need-returns-3
-unfolding literal-fault
-returns-3 c =
-    let s = c .before .before .around in
-    let v = c .before .before .before .before .before in
-    rw (
-      ← its-variable v,
-      ← s .ensures,
-      ← c .before .before .before .word-at2 .ensures .0,
-      ne-eqb (v .variable-of .result) 0 (c .before .before .before .before .if1 .left),
-      ne-eqb (s .result .kind) 3 (c .if2 .left),
-    )
+    (c .unnamed .ensures)
 
 pub literal-fault-spec : {M : Type 1} → statement M
 literal-fault-spec =
@@ -56,7 +44,6 @@ literal-fault-spec =
     (λ c κs. search needs)
     (λ c κs. search needs)
     (λ c κs. search needs)
-    (λ c. search needs)
-    (λ c. search needs)
-    returns-2
-    returns-3)
+    (λ c κs. search needs)
+    (λ c κs. search needs)
+    returns-2)

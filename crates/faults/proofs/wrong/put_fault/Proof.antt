@@ -41,25 +41,29 @@ returns-8 c = rw (c .before .before .before .before .before .before .f6 .given .
 
 returns-9 : tie.Need-returns-9
 unfolding fault-text
-returns-9 c =
-    let e = c .before .before .before .before .before .before .before .before .before .before .before .f7 .given .1 in
-    rw e (appends-both (c .before .before .before .before .before .before .before .put-filled10 .ensures) (c .before .before .put-filled11 .ensures))
+returns-9 c = rw (c .before .before .before .before .before .before .f7 .given .1) (c .before .before .put-filled10 .ensures)
 
 returns-10 : tie.Need-returns-10
 unfolding fault-text
-returns-10 c = rw (c .before .before .before .before .before .enum-told3 .given .1) (c .before .before .put-filled12 .ensures)
+returns-10 c =
+    let e = c .before .before .before .before .before .before .before .before .before .before .before .f8 .given .1 in
+    rw e (appends-both (c .before .before .before .before .before .before .before .put-filled11 .ensures) (c .before .before .put-filled12 .ensures))
 
 returns-11 : tie.Need-returns-11
 unfolding fault-text
-returns-11 c = rw (c .before .before .before .before .before .enum-told4 .given .1) (c .before .before .put-filled13 .ensures)
+returns-11 c = rw (c .before .before .before .before .before .enum-told3 .given .1) (c .before .before .put-filled13 .ensures)
 
 returns-12 : tie.Need-returns-12
 unfolding fault-text
-returns-12 c = rw (c .before .before .before .before .before .before .f8 .given .1) (c .before .before .put-filled14 .ensures)
+returns-12 c = rw (c .before .before .before .before .before .enum-told4 .given .1) (c .before .before .put-filled14 .ensures)
 
 returns-13 : tie.Need-returns-13
 unfolding fault-text
-returns-13 c = rw (c .before .before .before .before .before .enum-told5 .given .1) (c .before .before .put-filled15 .ensures)
+returns-13 c = rw (c .before .before .before .before .before .before .f9 .given .1) (c .before .before .put-filled15 .ensures)
+
+returns-14 : tie.Need-returns-14
+unfolding fault-text
+returns-14 c = rw (c .before .before .before .before .before .enum-told5 .given .1) (c .before .before .put-filled16 .ensures)
 
 pub put-fault-spec : {M : Type 1} → statement M
 put-fault-spec =
@@ -83,6 +87,9 @@ put-fault-spec =
     (λ c. search needs)
     (λ c. search needs)
     (λ c κs. search needs)
+    (λ c. search needs)
+    (λ c κs. search needs)
+    (λ c. search needs)
     (λ c. search needs)
     (λ c κs. search needs)
     (λ c. search needs)
@@ -133,4 +140,6 @@ put-fault-spec =
     (λ c. search needs)
     returns-12
     (λ c. search needs)
-    returns-13)
+    returns-13
+    (λ c. search needs)
+    returns-14)

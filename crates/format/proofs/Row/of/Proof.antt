@@ -7,7 +7,7 @@ use borrow.Author.Needs.{needs}
 use Rattle.meaning.specs.File
 use Rattle.meaning.specs.File.{Kind, kind-row, kind-table, no-kind}
 use Rattle.format.specs.declared.Class.{Class}
-use Rattle.format.specs.declared.Class.the-variants.{Nothing, State, Every}
+use Rattle.format.specs.declared.Class.the-variants.{Nothing, State, Present, Every}
 use Rattle.format.specs.declared.Row.{Row}
 use Rattle.format.specs.Forms.{class-of, kind-of}
 use Rattle.format.proofs.Row.of.Statement.{statement}
@@ -17,6 +17,7 @@ use Rattle.format.proofs.Row.of.Tie as tie
 class-from : File.Class → Class
 class-from File.nothing = Nothing
 class-from File.state = State
+class-from File.present = Present
 class-from File.every = Every
 
 row-from : Kind → Row
@@ -28,6 +29,7 @@ class-back : (c : File.Class) → class-of (class-from c) ≡ c
 unfolding class-from
 class-back File.nothing = refl
 class-back File.state = refl
+class-back File.present = refl
 class-back File.every = refl
 
 row-back : (k : Kind) → kind-of (row-from k) ≡ k

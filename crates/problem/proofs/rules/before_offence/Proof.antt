@@ -3,7 +3,9 @@ use Prim.Native.Nat.{_+_, _-_, _*_, _≤_}
 use native.Mathlib.Omega.{arith}
 use mathlib.Core.Path.{_≡_, sym, ap, _∙_}
 use denote.Ref.{now}
-use Rattle.meaning.specs.File.{before-offence, literals, literal-at, offends}
+use borrow.Author.Needs.{needs}
+use Rattle.meaning.specs.File.{before-offence, literals, literal-at, names, offends}
+use Rattle.format.specs.Forms.{class-of}
 use Rattle.problem.specs.Offences.{offence-first, offence-here, offence-later, offence-none}
 use Rattle.problem.proofs.rules.before_offence.Statement.{statement}
 use Rattle.problem.proofs.rules.before_offence.Tie as tie
@@ -13,17 +15,18 @@ use Rattle.format.proofs.literal_at.Reads as literal-at-reads
 use Rattle.problem.proofs.rules.offends.Reads as offends-reads
 
 abbrev Inv-loop : tie.InvT-loop
-Inv-loop file at count most i₀ i =
+Inv-loop file at count class n m i₀ i =
     (i ≤ count)
-    × (before-offence most (literals file at count) ≡ i + before-offence most (literals file (at + 2 * i) (count - i)))
+    × (before-offence (names (class-of class) n m) (literals file at count)
+    ≡ i + before-offence (names (class-of class) n m) (literals file (at + 2 * i) (count - i)))
 
 abbrev μ-loop : tie.MeasureT-loop
-μ-loop file at count most i₀ i = count - i
+μ-loop file at count class n m i₀ i = count - i
 
 loop-holds : tie.Need-loop-holds Inv-loop μ-loop
 loop-holds c =
     let args = c .before .args in
-    (omega arith, offence-first (args .most) (now (args .file)) (args .at) (args .count))
+    (omega arith, offence-first (names (class-of (args .class)) (args .n) (args .m)) (now (args .file)) (args .at) (args .count))
 
 mul-literal-at : tie.Need-mul-literal-at Inv-loop μ-loop
 mul-literal-at c = omega arith
@@ -35,15 +38,17 @@ literal-at-requires : tie.Need-literal-at-requires Inv-loop μ-loop
 literal-at-requires c κs = omega arith
 
 offends-requires : tie.Need-offends-requires Inv-loop μ-loop
-offends-requires c κs = tt
+offends-requires c κs = search needs
 
 -- the test is the definition's
 tested : (c : lts.After-offends (literal-at-reads.Asked, literal-at-reads.Learnt, offends-reads.Asked, offends-reads.Learnt) reads.Pre reads.Post Inv-loop μ-loop)
-    → c .offends .result
-    ≡ offends (c .before .before .before .before .before .args .most)
-    (literal-at (now (c .before .before .before .before .before .args .file))
-    (c .before .before .before .before .before .args .at + 2 * c .before .before .before .loop .i))
-tested c = c .offends .ensures ∙ ap (offends (c .before .before .before .before .before .args .most)) (c .before .literal-at .ensures)
+    → let args = c .before .before .before .before .before .args in
+    c .offends .result
+    ≡ offends (names (class-of (args .class)) (args .n) (args .m))
+    (literal-at (now (args .file)) (args .at + 2 * c .before .before .before .loop .i))
+tested c =
+    let args = c .before .before .before .before .before .args in
+    c .offends .ensures ∙ ap (offends (names (class-of (args .class)) (args .n) (args .m))) (c .before .literal-at .ensures)
 
 returns : tie.Need-returns Inv-loop μ-loop
 returns c =
@@ -52,7 +57,7 @@ returns c =
     omega (
       arith,
       here .loop .inv .1,
-      offence-here (args .most) (now (args .file)) (args .at) (args .count) (here .loop .i)
+      offence-here (names (class-of (args .class)) (args .n) (args .m)) (now (args .file)) (args .at) (args .count) (here .loop .i)
           (c .before .before .before .loop-test .taken)
           (sym (tested (c .before)) ∙ c .if1 .taken),
     )
@@ -71,7 +76,7 @@ loop-again c =
       omega (
         arith,
         here .loop .inv .1,
-        offence-later (args .most) (now (args .file)) (args .at) (args .count) (here .loop .i)
+        offence-later (names (class-of (args .class)) (args .n) (args .m)) (now (args .file)) (args .at) (args .count) (here .loop .i)
             (c .before .before .before .loop-test .taken)
             (sym (tested (c .before)) ∙ c .if1 .left),
       ),
@@ -83,7 +88,7 @@ returns-2 c =
     omega (
       arith,
       c .before .loop .inv .1,
-      offence-none (args .most) (now (args .file)) (args .at + 2 * c .before .loop .i) (args .count) (c .before .loop .i)
+      offence-none (names (class-of (args .class)) (args .n) (args .m)) (now (args .file)) (args .at + 2 * c .before .loop .i) (args .count) (c .before .loop .i)
           (c .loop-test .left),
     )
 

@@ -42,59 +42,56 @@ returns-2 c =
 literal-count-requires : tie.Need-literal-count-requires
 literal-count-requires c κs = search needs
 
-largest-variable-requires : tie.Need-largest-variable-requires
-largest-variable-requires c κs = search needs
-
 before-offence-requires : tie.Need-before-offence-requires
 before-offence-requires c κs =
-    let found = c .before .before .before .before .before in
-    literals-inside (found .before .before .before .before .pre .1) (found .before .before .of .ensures) (c .before .literal-count .ensures)
+    let found = c .before .before .before .before in (
+      literals-inside (found .before .before .before .before .pre .1) (found .before .before .of .ensures) (c .literal-count .ensures),
+      search needs,
+    )
 
 mul-t15 : tie.Need-mul-t15
 mul-t15 c =
-    let found = c .before .before .before .before .before .before .before in
+    let found = c .before .before .before .before .before .before in
     omega (
       arith,
       literals-inside (found .before .before .before .before .pre .1) (found .before .before .of .ensures)
-          (c .before .before .before .literal-count .ensures),
+          (c .before .before .literal-count .ensures),
     )
 
 add-t16 : tie.Need-add-t16
 add-t16 c =
-    let found = c .before .before .before .before .before .before .before in
+    let found = c .before .before .before .before .before .before in
     omega (
       arith,
       literals-inside (found .before .before .before .before .pre .1) (found .before .before .of .ensures)
-          (c .before .before .before .literal-count .ensures),
+          (c .before .before .literal-count .ensures),
     )
 
 returns-3 : tie.Need-returns-3
 returns-3 c =
-    let found = c .before .before .before .before .before .before .before in
+    let found = c .before .before .before .before .before .before in
     let headed = found .before .before .before .before .pre .1 in
     let row = found .before .before .of .ensures in
-    let not-many = many-here headed row (found .before .same-kind .ensures) (found .too-many .ensures) (c .before .before .before .before .before .before .if1 .left) in
-    let counts = counts-here headed (c .before .before .before .before .before .counts-wrong .ensures) (c .before .before .before .before .if2 .left) in
-    let count = c .before .before .before .literal-count .ensures in
-    let most = c .before .before .largest-variable .ensures in
+    let not-many = many-here headed row (found .before .same-kind .ensures) (found .too-many .ensures) (c .before .before .before .before .before .if1 .left) in
+    let counts = counts-here headed (c .before .before .before .before .counts-wrong .ensures) (c .before .before .before .if2 .left) in
+    let count = c .before .before .literal-count .ensures in
     let offence = c .before .before-offence .ensures in
-    literal-stops _ _ not-many counts (some-offends headed row count most offence (c .if3 .taken)) ∙
-    ap (refused-by 6) (sym (place-here headed row count most offence))
+    literal-stops _ _ not-many counts (some-offends headed row count offence (c .if3 .taken)) ∙
+    ap (refused-by 6) (sym (place-here headed row count offence))
 
 past-requires : tie.Need-past-requires
 past-requires c κs = search needs
 
 returns-4 : tie.Need-returns-4
 returns-4 c =
-    let found = c .before .before .before .before .before .before .before .before in
+    let found = c .before .before .before .before .before .before .before in
     let headed = found .before .before .before .before .pre .1 in
     let row = found .before .before .of .ensures in
-    let not-many = many-here headed row (found .before .same-kind .ensures) (found .too-many .ensures) (c .before .before .before .before .before .before .before .if1 .left) in
-    let counts = counts-here headed (c .before .before .before .before .before .before .counts-wrong .ensures) (c .before .before .before .before .before .if2 .left) in
-    let count = c .before .before .before .before .literal-count .ensures in
-    let most = c .before .before .before .largest-variable .ensures in
+    let not-many = many-here headed row (found .before .same-kind .ensures) (found .too-many .ensures) (c .before .before .before .before .before .before .if1 .left) in
+    let counts = counts-here headed (c .before .before .before .before .before .counts-wrong .ensures) (c .before .before .before .before .if2 .left) in
+    let count = c .before .before .before .literal-count .ensures in
     let offence = c .before .before .before-offence .ensures in
-    (body-passes _ _ not-many counts (none-offends headed row count most offence (c .before .if3 .left)), c .past .ensures)
+    (body-passes _ _ not-many counts (none-offends headed row count offence (c .before .if3 .left)), c .past .ensures)
 
 pub body-of-spec : {M : Type 1} → statement M
 body-of-spec =
@@ -108,7 +105,6 @@ body-of-spec =
     counts-wrong-requires
     returns-2
     literal-count-requires
-    largest-variable-requires
     before-offence-requires
     mul-t15
     add-t16

@@ -72,7 +72,7 @@ denied-within c =
 
 lone-requires : tie.Need-lone-requires Inv-loop μ-loop
 lone-requires c κs =
-    let h : variable (literal-of (c .before .denial .result)) ≤ 512 = denied-within (c .before) .1 in
+    let h : variable (literal-of (c .before .denial .result)) ≤ 512 = denied-within (c .before) .0 .1 in
     omega arith
 
 heard-requires : tie.Need-heard-requires Inv-loop μ-loop
