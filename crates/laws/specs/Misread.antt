@@ -17,8 +17,10 @@ use Rattle.meaning.specs.Calls
 use Rattle.meaning.specs.Calls.{Outcome, Program, refusal, answered, on-reading, one-job, one-call}
 use Rattle.meaning.specs.Demands
 use Rattle.meaning.specs.Demands.{set-left, one-count, SomeSafeInductive, Demand2}
+use Rattle.meaning.specs.Filed
+use Rattle.meaning.specs.Filed.{file-of}
 use Rattle.meaning.specs.Cases
-use Rattle.meaning.specs.Cases.{file-of, case-checksum, sevens, starred, line, run-line, outcome-of}
+use Rattle.meaning.specs.Cases.{case-checksum, sevens, starred, line, run-line, outcome-of}
 use Rattle.meaning.specs.Examples.{three, checksum-bad}
 use Rattle.laws.specs.Basics.{nonzero}
 use Rattle.laws.specs.Named.{accepted-well-formed}

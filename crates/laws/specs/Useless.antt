@@ -18,8 +18,10 @@ use Rattle.meaning.specs.Calls
 use Rattle.meaning.specs.Calls.{Outcome, Program, refusal, answered, on-reading, written, check-call, largest-call, one-call, list-call}
 use Rattle.meaning.specs.Demands
 use Rattle.meaning.specs.Demands.{Trimmer, In, Answered, set-left, rows-left, one-count, list-count, SomeSafeInductive, FixedBy, Demand1, Demand2, Demand3}
+use Rattle.meaning.specs.Filed
+use Rattle.meaning.specs.Filed.{file-of}
 use Rattle.meaning.specs.Cases
-use Rattle.meaning.specs.Cases.{file-of, case-A, case-B, case-E, case-checksum, sevens, plenty, starred, starred-hold, line, run-line, outcome-of}
+use Rattle.meaning.specs.Cases.{case-A, case-B, case-E, case-checksum, sevens, plenty, starred, starred-hold, line, run-line, outcome-of}
 use Rattle.laws.specs.Basics.{nonzero}
 use Rattle.laws.specs.Named.{accepted-well-formed}
 use Rattle.laws.specs.Paper.{one-minimal, largest-one}
@@ -29,7 +31,7 @@ use Rattle.laws.specs.DemandsHold.{largest-left, one-left, on-accepted}
 
 pub reads : (read (file-of case-A) ≡ accepted case-A) × (read (file-of case-B) ≡ accepted case-B) × (read (file-of case-E) ≡ accepted case-E)
     × (read (file-of case-checksum) ≡ accepted case-checksum)
-unfolding file-of case-A case-B case-E case-checksum Cases.applied-if Cases.held-if Cases.two Cases.literal-bytes Cases.clause-bytes Cases.record-bytes Cases.clause-records Cases.takes Cases.unit Clauses.variable Clauses.negation Clauses.is-true Clauses.any Clauses.all Clauses.holds Clauses.all-hold File.no-kind File.kind-table File.kind-row File.two-at File.signed File.literal-at File.literals File.between File.names File.literal-count File.offends File.before-offence File.body-length File.kind-at File.body-at File.row-at File.same-kind File.is-clause File.head-short File.kind-wrong File.length-wrong File.body-short File.too-many File.counts-wrong File.body-literals File.body-names File.offence-at File.rule-if File.record-rules File.refuse-if File.first-wrong File.span-at File.one-if-clause File.past File.and-before File.at-end File.unless-end File.unless-refused File.walk File.at-start File.walked File.clause-of File.keep-if File.of-kind File.clauses-of File.problem-of File.reading-of File.read
+unfolding file-of case-A case-B case-E case-checksum Cases.applied-if Cases.held-if Filed.two Filed.literal-bytes Filed.clause-bytes Filed.record-bytes Filed.clause-records Cases.takes Cases.unit Clauses.variable Clauses.negation Clauses.is-true Clauses.any Clauses.all Clauses.holds Clauses.all-hold File.no-kind File.kind-table File.kind-row File.two-at File.signed File.literal-at File.literals File.between File.names File.literal-count File.offends File.before-offence File.body-length File.kind-at File.body-at File.row-at File.same-kind File.is-clause File.head-short File.kind-wrong File.length-wrong File.body-short File.too-many File.counts-wrong File.body-literals File.body-names File.offence-at File.rule-if File.record-rules File.refuse-if File.first-wrong File.span-at File.one-if-clause File.past File.and-before File.at-end File.unless-end File.unless-refused File.walk File.at-start File.walked File.clause-of File.keep-if File.of-kind File.clauses-of File.problem-of File.reading-of File.read
 reads = (refl, refl, refl, refl)
 
 -- what call number i of the table comes to

@@ -14,33 +14,9 @@ use Rattle.meaning.specs.File
 use Rattle.meaning.specs.Search
 use Rattle.meaning.specs.Rules
 use Rattle.meaning.specs.Calls
+use Rattle.meaning.specs.Filed
+use Rattle.meaning.specs.Filed.{file-of}
 use Rattle.meaning.specs.Calls.{Outcome, Program, refusal, answered, check-call, largest-call, one-call, list-call}
-
--- two bytes, little-endian
-unfoldable pub two : ℕ → List ℕ
-two u = u % 256 ∷ u / 256 ∷ []
-
-unfoldable pub literal-bytes : Literal → List ℕ
-literal-bytes (pos v) = two v
-literal-bytes (neg v) = two (65536 - v)
-
-unfoldable pub clause-bytes : Clause → List ℕ
-clause-bytes [] = []
-clause-bytes (l ∷ c) = literal-bytes l ++ clause-bytes c
-
--- a record: the length of the body, the kind, the body
-unfoldable pub record-bytes : ℕ → List ℕ → List ℕ
-record-bytes kind body = two (length body) ++ (two kind ++ body)
-
-unfoldable pub clause-records : ℕ → List Clause → List ℕ
-clause-records kind [] = []
-clause-records kind (c ∷ cs) = record-bytes kind (clause-bytes c) ++ clause-records kind cs
-
--- the file of a problem
-unfoldable pub file-of : Problem → List ℕ
-file-of p =
-    record-bytes 1 (two (p .n) ++ two (p .m)) ++ clause-records 2 (p .init) ++ clause-records 3 (p .tr)
-    ++ clause-records 4 (p .bad) ++ clause-records 5 (p .lemmas) ++ record-bytes 6 []
 
 -- x' = y, as two clauses over the next value x' and the current value y
 unfoldable pub takes : ℕ → ℕ → List Clause
@@ -255,5 +231,5 @@ starred =
 
 -- each call of the table comes to what stands beside it
 pub starred-hold : map run-line starred ≡ map outcome-of starred
-unfolding case-chain applied-if held-if case-checksum two literal-bytes clause-bytes record-bytes clause-records file-of takes unit case-A case-B case-E case-F case-H case-J case-counted case-initial line run-line outcome-of sevens plenty starred Clauses.variable Clauses.negation Clauses.is-true Clauses.any Clauses.all Clauses.holds Clauses.all-hold Meaning.k Meaning.moment Meaning.has Meaning.at-marks Meaning.lemmas-of File.no-kind File.kind-table File.kind-row File.two-at File.signed File.literal-at File.literals File.between File.names File.literal-count File.offends File.before-offence File.body-length File.kind-at File.body-at File.row-at File.same-kind File.is-clause File.head-short File.kind-wrong File.length-wrong File.body-short File.too-many File.counts-wrong File.body-literals File.body-names File.offence-at File.rule-if File.record-rules File.refuse-if File.first-wrong File.span-at File.one-if-clause File.past File.and-before File.at-end File.unless-end File.unless-refused File.walk File.at-start File.walked File.clause-of File.keep-if File.of-kind File.clauses-of File.problem-of File.reading-of File.read Search.blank Search.flipped Search.value Search.with-literal Search.says-true Search.says-false Search.has-true Search.only-false Search.keep-unset Search.unset-places Search.only-place Search.forced-by Search.first-place Search.open-in Search.or-else Search.first-of Search.rule-d Search.rule-c Search.rule-b Search.rule-a Search.move Search.after Search.then-false Search.follow Search.search-from Search.searched Rules.denied Rules.next Rules.lemma Rules.clauses Rules.answer Rules.width Rules.asked Rules.plus Rules.each Rules.sum Rules.size Rules.without Rules.with-position Rules.contains Rules.counted-on Rules.unless Rules.or-then Rules.first-yes Rules.no-rows Rules.later Rules.rows-after Rules.and-then Rules.pick Rules.lowest Rules.stays Rules.step-cost Rules.survivors Rules.round-cost Rules.removes Rules.until-none Rules.rounds-within Rules.rounds Rules.initial Rules.initial-cost Rules.largest Rules.largest-safety Rules.reduced Rules.reduced-safety Rules.becomes Rules.shrink-at Rules.shrink Rules.one-if Rules.one Rules.failing Rules.smaller-at Rules.smaller Rules.row-unless Rules.row-of Rules.node-unless Rules.node-if-safe Rules.exclude Rules.branch Rules.node-at Rules.node Rules.list-if Rules.listing Calls.refusal Calls.answered Calls.checked Calls.on-reading Calls.mark Calls.written Calls.marked Calls.within Calls.with-room Calls.row-or-stop Calls.cut Calls.listed Calls.largest-job Calls.one-job Calls.list-job Calls.check-call Calls.largest-call Calls.one-call Calls.list-call
+unfolding case-chain applied-if held-if case-checksum Filed.two Filed.literal-bytes Filed.clause-bytes Filed.record-bytes Filed.clause-records file-of takes unit case-A case-B case-E case-F case-H case-J case-counted case-initial line run-line outcome-of sevens plenty starred Clauses.variable Clauses.negation Clauses.is-true Clauses.any Clauses.all Clauses.holds Clauses.all-hold Meaning.k Meaning.moment Meaning.has Meaning.at-marks Meaning.lemmas-of File.no-kind File.kind-table File.kind-row File.two-at File.signed File.literal-at File.literals File.between File.names File.literal-count File.offends File.before-offence File.body-length File.kind-at File.body-at File.row-at File.same-kind File.is-clause File.head-short File.kind-wrong File.length-wrong File.body-short File.too-many File.counts-wrong File.body-literals File.body-names File.offence-at File.rule-if File.record-rules File.refuse-if File.first-wrong File.span-at File.one-if-clause File.past File.and-before File.at-end File.unless-end File.unless-refused File.walk File.at-start File.walked File.clause-of File.keep-if File.of-kind File.clauses-of File.problem-of File.reading-of File.read Search.blank Search.flipped Search.value Search.with-literal Search.says-true Search.says-false Search.has-true Search.only-false Search.keep-unset Search.unset-places Search.only-place Search.forced-by Search.first-place Search.open-in Search.or-else Search.first-of Search.rule-d Search.rule-c Search.rule-b Search.rule-a Search.move Search.after Search.then-false Search.follow Search.search-from Search.searched Rules.denied Rules.next Rules.lemma Rules.clauses Rules.answer Rules.width Rules.asked Rules.plus Rules.each Rules.sum Rules.size Rules.without Rules.with-position Rules.contains Rules.counted-on Rules.unless Rules.or-then Rules.first-yes Rules.no-rows Rules.later Rules.rows-after Rules.and-then Rules.pick Rules.lowest Rules.stays Rules.step-cost Rules.survivors Rules.round-cost Rules.removes Rules.until-none Rules.rounds-within Rules.rounds Rules.initial Rules.initial-cost Rules.largest Rules.largest-safety Rules.reduced Rules.reduced-safety Rules.becomes Rules.shrink-at Rules.shrink Rules.one-if Rules.one Rules.failing Rules.smaller-at Rules.smaller Rules.row-unless Rules.row-of Rules.node-unless Rules.node-if-safe Rules.exclude Rules.branch Rules.node-at Rules.node Rules.list-if Rules.listing Calls.refusal Calls.answered Calls.checked Calls.on-reading Calls.mark Calls.written Calls.marked Calls.within Calls.with-room Calls.row-or-stop Calls.cut Calls.listed Calls.largest-job Calls.one-job Calls.list-job Calls.check-call Calls.largest-call Calls.one-call Calls.list-call
 starred-hold = refl

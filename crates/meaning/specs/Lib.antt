@@ -6,6 +6,14 @@ pub mod Search
 pub mod Rules
 pub mod Calls
 pub mod Demands
+pub mod Filed
+pub mod Circuit
+pub mod Built
+pub mod Lines
+pub mod CircuitText
+pub mod LemmaText
+pub mod Circuits
+pub mod CircuitCases
 pub mod Cases
 pub mod Refusals
 pub mod Examples

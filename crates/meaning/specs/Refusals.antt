@@ -11,7 +11,9 @@ use Rattle.meaning.specs.File
 use Rattle.meaning.specs.Calls
 use Rattle.meaning.specs.Calls.{Outcome, refusal, check-call}
 use Rattle.meaning.specs.Cases
-use Rattle.meaning.specs.Cases.{Line, line, run-line, outcome-of, two, record-bytes}
+use Rattle.meaning.specs.Filed
+use Rattle.meaning.specs.Filed.{two, record-bytes}
+use Rattle.meaning.specs.Cases.{Line, line, run-line, outcome-of}
 
 -- a checked file, and its refusal
 unfoldable pub refused : List ℕ → ℕ → ℕ → Line
@@ -137,5 +139,5 @@ pinned =
 
 -- each call of the table comes to what stands beside it
 pub pinned-hold : map run-line pinned ≡ map outcome-of pinned
-unfolding refused accepted L-cut L counts lemmas end head pinned Clauses.variable Clauses.negation Clauses.is-true Clauses.any Clauses.all Clauses.holds Clauses.all-hold Meaning.k Meaning.moment Meaning.has Meaning.at-marks Meaning.lemmas-of File.no-kind File.kind-table File.kind-row File.two-at File.signed File.literal-at File.literals File.between File.names File.literal-count File.offends File.before-offence File.body-length File.kind-at File.body-at File.row-at File.same-kind File.is-clause File.head-short File.kind-wrong File.length-wrong File.body-short File.too-many File.counts-wrong File.body-literals File.body-names File.offence-at File.rule-if File.record-rules File.refuse-if File.first-wrong File.span-at File.one-if-clause File.past File.and-before File.at-end File.unless-end File.unless-refused File.walk File.at-start File.walked File.clause-of File.keep-if File.of-kind File.clauses-of File.problem-of File.reading-of File.read Calls.refusal Calls.answered Calls.checked Calls.on-reading Calls.mark Calls.written Calls.marked Calls.within Calls.with-room Calls.row-or-stop Calls.cut Calls.listed Calls.largest-job Calls.one-job Calls.list-job Calls.check-call Calls.largest-call Calls.one-call Calls.list-call Cases.two Cases.literal-bytes Cases.clause-bytes Cases.record-bytes Cases.clause-records Cases.file-of Cases.takes Cases.unit Cases.case-A Cases.case-B Cases.case-E Cases.case-F Cases.case-H Cases.case-J Cases.case-counted Cases.case-initial Cases.line Cases.run-line Cases.outcome-of Cases.sevens Cases.plenty Cases.starred
+unfolding refused accepted L-cut L counts lemmas end head pinned Clauses.variable Clauses.negation Clauses.is-true Clauses.any Clauses.all Clauses.holds Clauses.all-hold Meaning.k Meaning.moment Meaning.has Meaning.at-marks Meaning.lemmas-of File.no-kind File.kind-table File.kind-row File.two-at File.signed File.literal-at File.literals File.between File.names File.literal-count File.offends File.before-offence File.body-length File.kind-at File.body-at File.row-at File.same-kind File.is-clause File.head-short File.kind-wrong File.length-wrong File.body-short File.too-many File.counts-wrong File.body-literals File.body-names File.offence-at File.rule-if File.record-rules File.refuse-if File.first-wrong File.span-at File.one-if-clause File.past File.and-before File.at-end File.unless-end File.unless-refused File.walk File.at-start File.walked File.clause-of File.keep-if File.of-kind File.clauses-of File.problem-of File.reading-of File.read Calls.refusal Calls.answered Calls.checked Calls.on-reading Calls.mark Calls.written Calls.marked Calls.within Calls.with-room Calls.row-or-stop Calls.cut Calls.listed Calls.largest-job Calls.one-job Calls.list-job Calls.check-call Calls.largest-call Calls.one-call Calls.list-call Filed.two Filed.literal-bytes Filed.clause-bytes Filed.record-bytes Filed.clause-records Filed.file-of Cases.takes Cases.unit Cases.case-A Cases.case-B Cases.case-E Cases.case-F Cases.case-H Cases.case-J Cases.case-counted Cases.case-initial Cases.line Cases.run-line Cases.outcome-of Cases.sevens Cases.plenty Cases.starred
 pinned-hold = refl
