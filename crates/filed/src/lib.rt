@@ -1,0 +1,1 @@
+// Theorems about a problem written as a file: see specs/.
