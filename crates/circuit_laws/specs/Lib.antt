@@ -1,0 +1,20 @@
+-- Theorems about circuits and the problems built from them.
+pub mod Sane
+pub mod Listed
+pub mod Rounds
+pub mod Edges
+pub mod Known
+pub mod Same
+pub mod OneValue
+pub mod Sections
+pub mod ReadSane
+pub mod Numbers
+pub mod Sizes
+pub mod BuiltNames
+pub mod Limits
+pub mod LemmaRange
+pub mod AcceptedTexts
+pub mod Theorems
+pub mod ProblemCall
+pub mod CircuitDemands
+pub mod CircuitMisread

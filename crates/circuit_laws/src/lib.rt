@@ -1,0 +1,1 @@
+// Theorems about circuits alone: see specs/.
