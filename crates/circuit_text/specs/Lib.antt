@@ -1,0 +1,5 @@
+-- The circuit text as the code reads it.
+pub mod Header
+pub mod Stages
+pub mod Read
+pub mod Uses
