@@ -1,0 +1,2 @@
+-- What writing into lent bytes leaves there.
+pub mod Put
