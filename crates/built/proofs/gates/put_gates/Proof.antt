@@ -1,0 +1,77 @@
+-- `built::gates::put_gates` meets its contract. The loop's invariant: line i starts here, and the records of the gates before it are written. The
+-- measure is how many gates are left. Assumes nothing.
+use Rattle.built.specs.Wrote.{wrote-as, room-as}
+use Rattle.built.specs.Sections.{gate-part, gate-here, gates-are-parts}
+use Rattle.built.specs.Turns.{Turn, turn-start, turn-room, turn-next, turn-end, turn-length}
+use Rattle.built.specs.Rows.{Cursor, cursor-start, cursor-row, cursor-next}
+use Rattle.sections.specs.Whole.{circuit-at}
+use mathlib.Core.Path.{sym}
+use native.Mathlib.Omega.{arith}
+use Prim.Native.Nat.{_-_}
+use Rattle.built.proofs.gates.put_gates.Statement.{statement}
+use Rattle.built.proofs.gates.put_gates.Tie as tie
+
+abbrev Inv-loop : tie.InvT-loop
+Inv-loop text c out₀ at kind count line₀ to₀ i₀ out line to i =
+    Cursor text 3 line₀ count line i × Turn (gate-part kind (circuit-at text c) text line₀) count at out₀ i to out
+
+abbrev μ-loop : tie.MeasureT-loop
+μ-loop text c out₀ at kind count line₀ to₀ i₀ out line to i =
+    count - i
+
+loop-holds : tie.Need-loop-holds Inv-loop μ-loop
+loop-holds c =
+    let start = c .before .before .before in
+    let first = cursor-start _ _ _ _ (start .pre .0 .whole .gates .inside) (start .pre .0 .whole .gates .rows) in
+    let room = room-as _ (start .args .out .now) (gates-are-parts (start .args .text .now) (start .args .c) (start .args .kind)) (start .pre .1 .1) in
+    (first, turn-start _ _ _ _ room)
+
+put-gate-requires : tie.Need-put-gate-requires Inv-loop μ-loop
+put-gate-requires c κs =
+    let start = c .before .before .before .before .before .before in
+    let turn = c .before .before .loop .inv in
+    let room = room-as _ (c .before .before .loop .out) (gate-here _ _ _ _ _ _ (turn .0 .place)) (turn-room (turn .1) (omega arith)) in
+    (start .pre .0, (cursor-row (turn .0) (omega arith), (start .pre .1 .0, room)))
+
+next-line-requires : tie.Need-next-line-requires Inv-loop μ-loop
+next-line-requires c κs =
+    let turn-at = c .before .before .before .before .before in
+    let row = cursor-row (turn-at .loop .inv .0) (omega arith) in
+    (row .inside, row .is-ended)
+
+add-i : tie.Need-add-i Inv-loop μ-loop
+add-i c = omega arith
+
+loop-less : tie.Need-loop-less Inv-loop μ-loop
+loop-less c = omega arith
+
+loop-again : tie.Need-loop-again Inv-loop μ-loop
+loop-again c =
+    let after-put-gate = c .before .before .before in
+    let turn-at = after-put-gate .before .before .before in
+    let turn = turn-at .loop .inv in
+    let wrote = wrote-as (sym (gate-here _ _ _ _ _ _ (turn .0 .place))) (after-put-gate .put-gate .ensures) in
+    (cursor-next (turn .0) (omega arith) _ (c .next-line .ensures .0), turn-next (turn .1) (omega arith) wrote)
+
+same-length : tie.Need-same-length Inv-loop μ-loop
+same-length c = turn-length (c .before .loop .inv .1)
+
+returns : tie.Need-returns Inv-loop μ-loop
+returns c =
+    let start = c .before .before .before .before .before in
+    wrote-as (sym (gates-are-parts (start .args .text .now) (start .args .c) (start .args .kind))) (turn-end (c .before .loop .inv .1) (omega arith))
+
+pub put-gates-spec : {M : Type 1} → statement M
+put-gates-spec =
+    tie.close
+    (tie.spec
+    Inv-loop
+    μ-loop
+    loop-holds
+    put-gate-requires
+    next-line-requires
+    add-i
+    loop-less
+    loop-again
+    same-length
+    returns)
