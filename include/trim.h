@@ -1,16 +1,17 @@
-/* The subset trimmer for C: four jobs on a problem file, with nothing to set up and nothing to free.
+/* The subset trimmer for C: four jobs on a problem file, the same four on a circuit with its lemmas, and one that writes the problem file of such
+ * a circuit; with nothing to set up and nothing to free.
  *
- * Every call may be made with any bytes as the file, any budget and any length of lent bytes: no prior check is asked. The only duties of a
- * caller are those of C: `file` points to `file_len` readable bytes, `marks` or `rows` to that many writable ones (a length of 0 takes any
+ * Every call may be made with any bytes as the file or texts, any budget and any length of lent bytes: no prior check is asked. The only duties
+ * of a caller are those of C: `file`, `circuit` and `lemmas` point to so many readable bytes, `marks` or `rows` to that many writable ones (a length of 0 takes any
  * pointer that is not null), `report` to seven words, and no two of them overlap. A call reads nothing else, writes nothing else, keeps
  * nothing, and takes no lock; calls may run side by side. It needs up to 1.5 MiB of stack.
  *
- * Each call returns the number of its answer, 0 for an answer and 1 to 12 for a refusal, and fills `report`:
+ * Each call returns the number of its answer, 0 for an answer and 1 to 14 for a refusal, and fills `report`:
  *
  *   report[0]  the number again
- *   report[1]  the place of a refusal 1 to 8: a byte offset in the file
+ *   report[1]  the place of a refusal 1 to 8 or 13: a byte offset in the file, or in the text that 13 speaks of
  *   report[2]  the decisions counted; for refusal 10 the budget
- *   report[3]  the rows written (a listing)
+ *   report[3]  the rows written (a listing), or the bytes written (trim_circuit_problem)
  *   report[4]  n, the state variables          \
  *   report[5]  m, the inputs and helpers        > of a file that trim_check accepts
  *   report[6]  k, the candidate lemmas         /
@@ -24,7 +25,14 @@
  *    5  n or m out of range                        11  the largest inductive set isn't safe: no subset of these candidates would do
  *    6  literal 0, or a variable not for its kind  12  a row that doesn't fit (trim_list)
  *
- * Refusals 1 to 9 and 11 write nothing but the report; so does 10, but for a listing, where 10 and 12 keep the rows already found. The budget
+ *   13  a text that is not as its format says, at its first line at fault: the circuit's, and only if that is right the lemmas'
+ *   14  a circuit and lemmas over the limits: a text over 65,536 bytes, no latch or more than 96, more than 320 inputs and gates, other than
+ *       one output, more than 128 lemmas, a lemma of more than 64 literals
+ *
+ * Which text 13 speaks of: the circuit's, if the same call with an empty lemma text is refused by 13 too. Both come before 9; a circuit is never
+ * refused by 1 to 8. docs/CIRCUITS.md says what the two texts are, and how they become a problem.
+ *
+ * Refusals 1 to 9, 11, 13 and 14 write nothing but the report; so does 10, but for a listing, where 10 and 12 keep the rows already found. The budget
  * bounds the decisions of the whole call, 0 to 4,294,967,295. docs/FORMAT.md says what a problem file is. Init clauses and lemmas name state
  * variables (1 to n), Tr clauses every variable (1 to 2n+m), and Bad clauses all but next values (1 to n, 2n+1 to 2n+m): a state is bad if some
  * values of inputs and helpers satisfy all Bad clauses. Tr says nothing of Bad: what defines a helper that Bad names stands in Bad again.
@@ -52,6 +60,24 @@ uint32_t trim_one(const uint8_t *file, size_t file_len, uint32_t budget, uint8_t
 /* List all minimal safe inductive subsets: row r stands at bytes r*k to r*k+k-1, marked in the same way. Rows are ordered so that at the
  * first position where two differ, the one that has it comes first; the one set is the last row. Number 0 says that the list is complete. */
 uint32_t trim_list(const uint8_t *file, size_t file_len, uint32_t budget, uint8_t *rows, size_t rows_len, uint64_t report[7]);
+
+/* The same four jobs on a circuit in ASCII AIGER (the format of 2007) and a lemma text: one lemma a line, signed latch numbers closed by 0. */
+uint32_t trim_circuit_check(const uint8_t *circuit, size_t circuit_len, const uint8_t *lemmas, size_t lemmas_len, uint64_t report[7]);
+
+uint32_t trim_circuit_largest(const uint8_t *circuit, size_t circuit_len, const uint8_t *lemmas, size_t lemmas_len, uint32_t budget,
+                              uint8_t *marks, size_t marks_len, uint64_t report[7]);
+
+uint32_t trim_circuit_one(const uint8_t *circuit, size_t circuit_len, const uint8_t *lemmas, size_t lemmas_len, uint32_t budget,
+                          uint8_t *marks, size_t marks_len, uint64_t report[7]);
+
+uint32_t trim_circuit_list(const uint8_t *circuit, size_t circuit_len, const uint8_t *lemmas, size_t lemmas_len, uint32_t budget,
+                           uint8_t *rows, size_t rows_len, uint64_t report[7]);
+
+/* Write the problem file that is built from a circuit and its lemmas into the first of the lent bytes: report[3] says how many they are, 35,666 at
+ * most, and n, m and k are those of trim_check. Refused by 12, with nothing written, where they do not fit. Every job on that file answers as
+ * the job on the circuit does. */
+uint32_t trim_circuit_problem(const uint8_t *circuit, size_t circuit_len, const uint8_t *lemmas, size_t lemmas_len, uint8_t *file,
+                              size_t file_len, uint64_t report[7]);
 
 #ifdef __cplusplus
 }
