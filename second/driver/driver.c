@@ -1,6 +1,7 @@
 /* Calls the proved library through its C interface, for a comparison in another process: requests on standard input, answers on standard
- * output, until the input ends. A request is four 32-bit numbers (job 0 to 3, budget, length of the file, length of the lent bytes), then the
- * file and the lent bytes. An answer is two 32-bit numbers (what the call returned; 1 if the bytes around the lent ones are as they were), the
+ * output, until the input ends. A request is five 32-bit numbers (job 0 to 8, budget, length of the file or circuit text, length of the lemma
+ * text, length of the lent bytes), then the file or circuit text, the lemma text and the lent bytes. Jobs 0 to 3 are over a file and have no
+ * lemma text; 4 to 8 are over a circuit. An answer is two 32-bit numbers (what the call returned; 1 if the bytes around the lent ones are as they were), the
  * seven words of the report, and the lent bytes. It stands on nothing but read and write. */
 #include "trim.h"
 
@@ -11,6 +12,7 @@ long write(int descriptor, const void *bytes, size_t count);
 #define MOST (1 << 20)
 
 static uint8_t file[MOST];
+static uint8_t lemmas[MOST];
 static uint8_t space[MOST + 2 * AROUND];
 
 static int take(void *bytes, size_t count) {
@@ -45,6 +47,15 @@ static uint32_t call(uint32_t job, uint32_t budget, size_t file_len, size_t lent
     return trim_list(file, file_len, budget, lent, lent_len, report);
 }
 
+static uint32_t circuit_call(uint32_t job, uint32_t budget, size_t file_len, size_t lemmas_len, size_t lent_len, uint64_t report[7]) {
+    uint8_t *lent = space + AROUND;
+    if (job == 4) return trim_circuit_check(file, file_len, lemmas, lemmas_len, report);
+    if (job == 5) return trim_circuit_largest(file, file_len, lemmas, lemmas_len, budget, lent, lent_len, report);
+    if (job == 6) return trim_circuit_one(file, file_len, lemmas, lemmas_len, budget, lent, lent_len, report);
+    if (job == 7) return trim_circuit_list(file, file_len, lemmas, lemmas_len, budget, lent, lent_len, report);
+    return trim_circuit_problem(file, file_len, lemmas, lemmas_len, lent, lent_len, report);
+}
+
 static uint32_t guarded(size_t lent_len) {
     for (size_t i = 0; i < AROUND; i++)
         if (space[i] != guard(i) || space[AROUND + lent_len + i] != guard(i)) return 0;
@@ -52,16 +63,17 @@ static uint32_t guarded(size_t lent_len) {
 }
 
 int main(void) {
-    uint32_t ask[4];
+    uint32_t ask[5];
     while (take(ask, sizeof ask)) {
-        size_t file_len = ask[2], lent_len = ask[3];
-        if (file_len > MOST || lent_len > MOST) return 1;
-        if (!take(file, file_len) || !take(space + AROUND, lent_len)) return 1;
+        size_t file_len = ask[2], lemmas_len = ask[3], lent_len = ask[4];
+        if (file_len > MOST || lemmas_len > MOST || lent_len > MOST) return 1;
+        if (!take(file, file_len) || !take(lemmas, lemmas_len) || !take(space + AROUND, lent_len)) return 1;
         for (size_t i = 0; i < AROUND; i++) space[i] = space[AROUND + lent_len + i] = guard(i);
         uint64_t report[7];
         for (size_t i = 0; i < 7; i++) report[i] = UINT64_MAX;
         uint32_t answer[2];
-        answer[0] = call(ask[0], ask[1], file_len, lent_len, report);
+        answer[0] = ask[0] < 4 ? call(ask[0], ask[1], file_len, lent_len, report)
+                               : circuit_call(ask[0], ask[1], file_len, lemmas_len, lent_len, report);
         answer[1] = guarded(lent_len);
         if (!give(answer, sizeof answer) || !give(report, sizeof report) || !give(space + AROUND, lent_len)) return 1;
     }

@@ -1,8 +1,30 @@
-//! The subset trimmer a second time, written from document 01 and request 2026-01 alone and as plainly as they are.
-//! The four jobs are in `jobs`, the listing program's text in `text`, the broken rules in `mutants`.
+//! The subset trimmer a second time, written from document 01 and requests 2026-01 and 2026-02 alone and as plainly as
+//! they are.
+//! The four jobs are in `jobs`, those over circuits in `circuit_jobs`, the listing program's text in `text`, the broken rules in `mutants`.
 
 pub mod bench;
 pub mod circuit;
+pub mod circuit_accepted;
+pub mod circuit_call;
+pub mod circuit_clauses;
+pub mod circuit_compare;
+pub mod circuit_damage;
+pub mod circuit_dress;
+pub mod circuit_faults;
+pub mod circuit_faults_late;
+pub mod circuit_gates;
+pub mod circuit_jobs;
+pub mod circuit_lemmas;
+pub mod circuit_limits;
+pub mod circuit_mutants;
+pub mod circuit_problem;
+pub mod circuit_random;
+pub mod circuit_sample;
+pub mod circuit_shrink;
+pub mod circuit_source;
+pub mod circuit_stored;
+pub mod circuit_telling;
+pub mod circuit_text;
 pub mod compare;
 pub mod damage;
 pub mod families;
@@ -11,11 +33,13 @@ pub mod find;
 pub mod jobs;
 pub mod library;
 pub mod limits;
+pub mod lines;
 pub mod listing;
 pub mod loader;
 pub mod misread;
 pub mod mutants;
 pub mod notation;
+pub mod number;
 pub mod questions;
 pub mod random;
 pub mod refusals;

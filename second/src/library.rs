@@ -1,6 +1,8 @@
 //! The proved library through its C interface, in a process of its own: the library is built for x86-64, and this program for the processor
 //! at hand. Only this file knows how the library is called; driver/driver.c is the other end.
 
+use crate::circuit_call::CircuitSubject;
+use crate::circuit_jobs::CircuitJob;
 use crate::jobs::{Job, Report};
 use crate::subject::Subject;
 use std::cell::RefCell;
@@ -34,25 +36,20 @@ impl Drop for Library {
     }
 }
 
-fn request(job: Job, file: &[u8], budget: u32, lent: &[u8]) -> Vec<u8> {
-    let number = Job::ALL.iter().position(|&other| other == job).expect("a job");
-    let mut bytes = Vec::with_capacity(16 + file.len() + lent.len());
-    for word in [number as u32, budget, file.len() as u32, lent.len() as u32] {
+/// A request: the number of the job, the budget, then the file or both texts, and the lent bytes.
+fn request(job: usize, [file, lemmas]: [&[u8]; 2], budget: u32, lent: &[u8]) -> Vec<u8> {
+    let mut bytes = Vec::with_capacity(20 + file.len() + lemmas.len() + lent.len());
+    for word in [job as u32, budget, file.len() as u32, lemmas.len() as u32, lent.len() as u32] {
         bytes.extend(word.to_le_bytes());
     }
-    bytes.extend(file);
-    bytes.extend(lent);
+    [file, lemmas, lent].into_iter().for_each(|part| bytes.extend(part));
     bytes
 }
 
-impl Subject for Library {
-    fn name(&self) -> String {
-        "the library".to_string()
-    }
-
-    fn call(&self, job: Job, file: &[u8], budget: u32, lent: &mut [u8]) -> Report {
+impl Library {
+    fn answer(&self, request: &[u8], lent: &mut [u8]) -> Report {
         let mut pipes = self.pipes.borrow_mut();
-        pipes.0.write_all(&request(job, file, budget, lent)).expect("the driver takes a request");
+        pipes.0.write_all(request).expect("the driver takes a request");
         pipes.0.flush().expect("the driver takes a request");
         let mut words = [0u8; 64];
         pipes.1.read_exact(&mut words).expect("the driver answers");
@@ -64,5 +61,21 @@ impl Subject for Library {
         let right = word(0) == returned as u64 && kept == 1;
         let number = if right { word(0) } else { u64::MAX };
         Report { number, place: word(1), decisions: word(2), rows: word(3), n: word(4), m: word(5), k: word(6) }
+    }
+}
+
+impl Subject for Library {
+    fn name(&self) -> String {
+        "the library".to_string()
+    }
+
+    fn call(&self, job: Job, file: &[u8], budget: u32, lent: &mut [u8]) -> Report {
+        self.answer(&request(job as usize, [file, &[]], budget, lent), lent)
+    }
+}
+
+impl CircuitSubject for Library {
+    fn circuit_call(&self, job: CircuitJob, texts: [&[u8]; 2], budget: u32, lent: &mut [u8]) -> Report {
+        self.answer(&request(Job::ALL.len() + job as usize, texts, budget, lent), lent)
     }
 }

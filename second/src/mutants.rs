@@ -1,5 +1,7 @@
-//! The rules a call goes by: the true ones of document 01 and request 2026-01, or a mutant that breaks just one of
-//! them.
+//! The rules a call goes by: the true ones of document 01 and requests 2026-01 and 2026-02, or a mutant that breaks
+//! just one of them.
+
+use crate::circuit_mutants::CIRCUIT_MUTANTS;
 
 /// The true rules, or the one rule that is broken. Every part is handed this value and asks it
 /// at the place where its own rule stands.
@@ -74,9 +76,97 @@ pub enum Rules {
     BadForAllInputs,
     BadLastInputFree,
     BadClauseByClause,
+    // Circuits: the form of a line.
+    SpacesLetThrough,
+    TabLetThrough,
+    ReturnLetThrough,
+    PlusLetThrough,
+    LeadingZerosRefused,
+    LargeNumbersRefused,
+    LargeNumbersCut,
+    LastNewlineLeftOut,
+    MissingAtTheLineBefore,
+    LongHeaderLetThrough,
+    LatchStartLetThrough,
+    // Circuits: ranges, and what stands in earlier lines.
+    SumNotTested,
+    OutputsInTheSum,
+    OddDefinitionLetThrough,
+    ConstantDefinitionLetThrough,
+    DefinitionPastRange,
+    UsePastRange,
+    LastUseRefused,
+    DefinedTwiceLetThrough,
+    PositionPastRange,
+    PositionTwiceLetThrough,
+    PositionsByDigits,
+    PositionsShared,
+    LettersInOrder,
+    NameOfNoBytes,
+    CommentLineMaySayMore,
+    CommentsAreLines,
+    // Circuits: what is known when all lines are.
+    SymbolsJudgedLast,
+    UndefinedIsFalse,
+    CircleLetThrough,
+    NeedsACircleLetThrough,
+    LatchAtFaultForItsGate,
+    LaterGatesRefused,
+    CirclesThroughLatches,
+    // Circuits: long texts.
+    LongCircuitNotJudged,
+    LongLemmasNotJudged,
+    LongDefinedTwiceJudged,
+    LongPositionTwiceJudged,
+    LongUndefinedJudged,
+    LongCircleJudged,
+    // Circuits: lemma lines.
+    MinusZeroCloses,
+    ZeroInsideLetThrough,
+    LemmaNotClosed,
+    LatchNumberPastRange,
+    EmptyLineLetThrough,
+    // Circuits: the order of refusals, and what they leave.
+    LemmasBeforeCircuit,
+    LimitsBeforeCircuit,
+    LimitsBeforeLemmas,
+    SpaceBeforeLimits,
+    RefusalClearsMarks,
+    // Circuits: limits.
+    LimitsThemselvesRefused,
+    NoLatchLetThrough,
+    MoreLatchesLetThrough,
+    GatesNotCounted,
+    NoOutputLetThrough,
+    MoreOutputsLetThrough,
+    MoreLemmasLetThrough,
+    ClosingZeroCounted,
+    // Circuits: the problem.
+    GatesBeforeInputs,
+    InputsByLiteral,
+    LatchesByLiteral,
+    GatesByLiteral,
+    GatesByNeed,
+    StartIsFree,
+    StartIsOne,
+    GateBeforeItsInputs,
+    LongClauseFirst,
+    GateLastInLongClause,
+    GateInputsExchanged,
+    EqualInputsOnce,
+    LatchesBeforeGates,
+    LatchClausesExchanged,
+    NextValueLast,
+    NextNegationLost,
+    OutputBeforeGates,
+    BadWithoutGates,
+    FalseDropsItsClause,
+    TrueLeavesItsClause,
+    ConstantsExchanged,
 }
 
-/// Each mutant with what it does instead of the rule.
+/// Each mutant of the jobs over files with what it does instead of the rule; those of circuits are in
+/// `circuit_mutants`.
 pub const MUTANTS: [(Rules, &str); 62] = [
     (Rules::SecondTryFree, "the second try of a decision is not counted"),
     (Rules::LastOpenClause, "a decision takes the last clause without a true literal"),
@@ -182,7 +272,7 @@ impl Rules {
 
     /// The mutant with this name.
     pub fn named(name: &str) -> Option<Rules> {
-        MUTANTS.iter().map(|&(rules, _)| rules).find(|rules| rules.name() == name)
+        MUTANTS.iter().chain(CIRCUIT_MUTANTS).map(|&(rules, _)| rules).find(|rules| rules.name() == name)
     }
 
     /// Whether some call tells this mutant apart from the true rules.

@@ -10,12 +10,23 @@ const WORK: usize = 50_000;
 
 /// The smallest call found from this one, within the work allowed, for which the test still holds.
 pub fn shrink(call: Call, shows: &dyn Fn(&Call) -> bool) -> Call {
+    shrink_by(call, smaller_calls, |call| call.file.len(), WORK, shows)
+}
+
+/// The same for any call whose smaller ones and whose bytes are told, within so much work.
+pub fn shrink_by<C>(
+    call: C,
+    smaller_calls: for<'a> fn(&'a C) -> Each<'a, C>,
+    bytes: fn(&C) -> usize,
+    most: usize,
+    shows: &dyn Fn(&C) -> bool,
+) -> C {
     let mut call = call;
     let mut work = 0;
     loop {
-        let allowed = |smaller: &Call| {
-            work += 1 + smaller.file.len() / 500;
-            work <= WORK
+        let allowed = |smaller: &C| {
+            work += 1 + bytes(smaller) / 500;
+            work <= most
         };
         let smaller = smaller_calls(&call).take_while(allowed).find(|smaller| shows(smaller));
         match smaller {
@@ -25,7 +36,7 @@ pub fn shrink(call: Call, shows: &dyn Fn(&Call) -> bool) -> Call {
     }
 }
 
-type Each<'a, T> = Box<dyn Iterator<Item = T> + 'a>;
+pub type Each<'a, T> = Box<dyn Iterator<Item = T> + 'a>;
 
 fn smaller_calls(call: &Call) -> Each<'_, Call> {
     let files: Each<Vec<u8>> = match call.problem() {
@@ -38,7 +49,7 @@ fn smaller_calls(call: &Call) -> Each<'_, Call> {
     Box::new(by_file.chain(spaces).chain(budgets))
 }
 
-fn less(number: u64) -> impl Iterator<Item = u64> {
+pub fn less(number: u64) -> impl Iterator<Item = u64> {
     let some = [0, number / 2, number.saturating_sub(1)];
     some.into_iter().filter(move |&smaller| smaller < number)
 }
@@ -50,7 +61,7 @@ fn smaller_bytes(file: &[u8]) -> impl Iterator<Item = Vec<u8>> {
 }
 
 /// The list without a run of its items, long runs first.
-fn smaller_lists<T: Clone>(list: Vec<T>) -> impl Iterator<Item = Vec<T>> {
+pub fn smaller_lists<T: Clone>(list: Vec<T>) -> impl Iterator<Item = Vec<T>> {
     let halves = std::iter::successors(Some(list.len()), |run| Some(run / 2));
     let runs = halves.take_while(|&run| run > 0);
     let list = Rc::new(list);

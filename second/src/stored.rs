@@ -2,6 +2,7 @@
 //! calls that tell mutants, and the indexes that say what each file is.
 
 use crate::bench::CASES;
+use crate::circuit_stored::circuit_stored;
 use crate::families::FAMILIES;
 use crate::jobs::{call, Job, Report};
 use crate::limits::most_of_all;
@@ -16,11 +17,12 @@ pub struct Stored {
     pub bytes: Vec<u8>,
 }
 
-/// Every made file. The two real files beside them are given.
+/// Every made file. The two real files and the two real circuits beside them are given.
 pub fn stored() -> Vec<Stored> {
     let mut files = problems();
     files.extend(refused());
     files.extend(telling());
+    files.extend(circuit_stored());
     files
 }
 

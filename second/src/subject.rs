@@ -46,6 +46,13 @@ pub struct Outcome {
 const AROUND: usize = 16;
 
 impl Outcome {
+    /// Makes a call with so many lent bytes.
+    pub fn of(space: usize, call: impl FnOnce(&mut [u8]) -> Report) -> Outcome {
+        let mut bytes: Vec<u8> = (0..space + 2 * AROUND).map(pattern).collect();
+        let report = call(&mut bytes[AROUND..AROUND + space]);
+        Outcome { report, bytes }
+    }
+
     /// The lent bytes.
     pub fn lent(&self) -> &[u8] {
         &self.bytes[AROUND..self.bytes.len() - AROUND]
@@ -59,10 +66,7 @@ pub fn pattern(place: usize) -> u8 {
 
 impl Call {
     pub fn outcome(&self, subject: &dyn Subject) -> Outcome {
-        let mut bytes: Vec<u8> = (0..self.space + 2 * AROUND).map(pattern).collect();
-        let lent = &mut bytes[AROUND..AROUND + self.space];
-        let report = subject.call(self.job, &self.file, self.budget, lent);
-        Outcome { report, bytes }
+        Outcome::of(self.space, |lent| subject.call(self.job, &self.file, self.budget, lent))
     }
 
     /// Whether two subjects differ in this call.

@@ -48,3 +48,14 @@ fn the_comparison_prints_its_seed_its_calls_and_what_it_found() {
     assert!(text.contains(" calls;") && text.contains("no difference"), "{text}");
     assert!(text.contains("; inputs in Bad: check "), "{text}");
 }
+
+#[test]
+fn the_comparison_over_circuits_prints_the_same_and_what_its_texts_were() {
+    let output = Command::new(env!("CARGO_BIN_EXE_compare_circuits")).args(["2000", "9"]).output();
+    let output = output.expect("the program runs");
+    let text = String::from_utf8(output.stdout).expect("its text");
+    assert!(output.status.success(), "{text}");
+    assert!(text.starts_with("seed 9\n"), "{text}");
+    assert!(text.contains(" calls;") && text.contains("no difference"), "{text}");
+    assert!(text.contains("; texts: whole ") && text.contains("; read: check "), "{text}");
+}

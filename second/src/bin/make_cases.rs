@@ -6,8 +6,9 @@ use std::{env, fs, io};
 
 fn main() -> io::Result<()> {
     let folder = env::args().nth(1).map_or(PathBuf::from("../cases"), PathBuf::from);
-    fs::create_dir_all(folder.join("mutants"))?;
-    fs::create_dir_all(folder.join("refusals"))?;
+    for made in ["mutants", "refusals", "circuits/mutants", "circuits/refusals", "circuits/read"] {
+        fs::create_dir_all(folder.join(made))?;
+    }
     let files = stored();
     for file in &files {
         fs::write(folder.join(&file.path), &file.bytes)?;

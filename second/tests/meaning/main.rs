@@ -1,5 +1,8 @@
-//! Over random small files the four jobs give what the definitions say, found by walking everything.
+//! Over random small files the four jobs give what the definitions say, found by walking everything; and over random
+//! small circuits too, found by simulating them.
 
+mod circuits;
+mod simulate;
 mod walk;
 
 use second::bench::case;

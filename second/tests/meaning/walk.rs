@@ -6,11 +6,11 @@ use second::file::{Clause, Problem};
 /// All states, all steps and, for each lemma, the states where it holds; states are numbers whose
 /// bits are the values.
 pub struct Walk {
-    states: usize,
-    init: Vec<bool>,
-    bad: Vec<bool>,
-    steps: Vec<(usize, usize)>,
-    lemmas: Vec<Vec<bool>>,
+    pub states: usize,
+    pub init: Vec<bool>,
+    pub bad: Vec<bool>,
+    pub steps: Vec<(usize, usize)>,
+    pub lemmas: Vec<Vec<bool>>,
 }
 
 fn holds(clause: &[i16], values: usize) -> bool {
