@@ -1,7 +1,8 @@
-//! The proved subset trimmer for Rust: its four C functions as four safe ones.
+//! The proved subset trimmer for Rust: its C functions as safe ones. Four jobs read a problem file, and the same four, with
+//! `circuit_` before their names, a circuit in ASCII AIGER with its lemmas in a second text.
 //!
-//! Any bytes may be passed as the file, with any budget: a file that is not a problem file is refused, and nothing needs to
-//! be checked before. A call keeps nothing and takes no lock, so calls may run side by side. It needs up to 1.5 MiB of stack:
+//! Any bytes may be passed as the file or the texts, with any budget: what is no problem file and no circuit is refused, and
+//! nothing needs to be checked before. A call keeps nothing and takes no lock, so calls may run side by side. It needs up to 1.5 MiB of stack:
 //! less than the main thread has, and less than the 2 MiB of a thread that Rust spawns.
 //!
 //! ```
@@ -22,6 +23,21 @@
 //! assert_eq!(refusal.to_string(), "refusal 2 at byte 42: a record is cut short");
 //! # Ok::<(), trim_example::Refusal>(())
 //! ```
+//!
+//! ```
+//! // One latch whose next value is itself, and which is the output: it starts at 0, and so stays there.
+//! let circuit = b"aag 1 0 1 1 0\n2 2\n2\n";
+//! let set = trim_example::circuit_one(circuit, b"-1 0\n", 1_000_000)?;
+//! assert_eq!(set.positions(), [0]);
+//!
+//! // The same problem as a file, for the jobs that read one.
+//! let file = trim_example::circuit_problem(circuit, b"-1 0\n")?;
+//! assert_eq!(trim_example::one(&file, 1_000_000)?, set);
+//!
+//! let refusal = trim_example::circuit_one(circuit, b"-1 0\n-2 0\n", 1_000_000).unwrap_err();
+//! assert_eq!(refusal.to_string(), "refusal 13 at byte 5 of the lemmas: a line is not as the text's format says");
+//! # Ok::<(), trim_example::Refusal>(())
+//! ```
 
 #![deny(unsafe_op_in_unsafe_fn)]
 #![deny(unsafe_code)]
@@ -31,11 +47,14 @@
 mod library;
 mod refusal;
 
-pub use refusal::Refusal;
+pub use refusal::{Refusal, Text};
 
-use library::Report;
+use library::{Report, Texts};
 
-/// The sizes of an accepted problem file.
+/// No problem that is built from a circuit takes more bytes as a file.
+const FILE_MOST: usize = 35_666;
+
+/// The sizes of an accepted problem: of a file, or built from a circuit and its lemmas.
 #[derive(Clone, Copy, Debug, PartialEq, Eq)]
 pub struct Accepted {
     /// The state variables.
@@ -107,14 +126,43 @@ pub fn list(file: &[u8], budget: u32, space: usize) -> Result<Listing, Refusal> 
     let k = check(file)?.k;
     let mut bytes = vec![0; space];
     let report = library::list(file, budget, &mut bytes);
-    let ended = match report.number {
-        0 => Ended::Complete,
-        10 => Ended::Spent,
-        12 => Ended::Full,
-        _ => return Err(report.refusal()),
-    };
-    let rows = (0..report.rows).map(|row| truths(&bytes[row * k..(row + 1) * k])).collect();
-    Ok(Listing { rows, decisions: report.decisions, ended })
+    listing(report, k, &bytes).ok_or_else(|| report.refusal())
+}
+
+/// Checks a circuit and its lemmas, and gives the sizes of the problem built from them.
+pub fn circuit_check(circuit: &[u8], lemmas: &[u8]) -> Result<Accepted, Refusal> {
+    let texts = Texts { circuit, lemmas };
+    let Report { n, m, k, .. } = library::circuit_check(texts).answer_of(texts)?;
+    Ok(Accepted { n, m, k })
+}
+
+/// Marks the largest inductive subset of a circuit's lemmas, as [`largest`] does.
+pub fn circuit_largest(circuit: &[u8], lemmas: &[u8], budget: u32) -> Result<Marked, Refusal> {
+    circuit_marked(library::circuit_largest, Texts { circuit, lemmas }, budget)
+}
+
+/// Marks one minimal safe inductive subset of a circuit's lemmas, as [`one`] does.
+pub fn circuit_one(circuit: &[u8], lemmas: &[u8], budget: u32) -> Result<Marked, Refusal> {
+    circuit_marked(library::circuit_one, Texts { circuit, lemmas }, budget)
+}
+
+/// Lists the minimal safe inductive subsets of a circuit's lemmas, as [`list`] does.
+pub fn circuit_list(circuit: &[u8], lemmas: &[u8], budget: u32, space: usize) -> Result<Listing, Refusal> {
+    let texts = Texts { circuit, lemmas };
+    let k = circuit_check(circuit, lemmas)?.k;
+    let mut bytes = vec![0; space];
+    let report = library::circuit_list(texts, budget, &mut bytes);
+    listing(report, k, &bytes).ok_or_else(|| report.refusal_of(texts))
+}
+
+/// Gives the file of the problem that is built from a circuit and its lemmas. Every job answers of that file as it does of
+/// the two texts.
+pub fn circuit_problem(circuit: &[u8], lemmas: &[u8]) -> Result<Vec<u8>, Refusal> {
+    let texts = Texts { circuit, lemmas };
+    let mut file = vec![0; FILE_MOST];
+    let report = library::circuit_problem(texts, &mut file).answer_of(texts)?;
+    file.truncate(report.rows);
+    Ok(file)
 }
 
 /// Lends as many bytes as there are lemmas to one of the two marking jobs, so that refusal 9 never comes.
@@ -122,6 +170,25 @@ fn marked(job: fn(&[u8], u32, &mut [u8]) -> Report, file: &[u8], budget: u32) ->
     let mut marks = vec![0; check(file)?.k];
     let report = job(file, budget, &mut marks).answer()?;
     Ok(Marked { marks: truths(&marks), decisions: report.decisions })
+}
+
+/// The same for the two marking jobs on circuits.
+fn circuit_marked(job: fn(Texts, u32, &mut [u8]) -> Report, texts: Texts, budget: u32) -> Result<Marked, Refusal> {
+    let mut marks = vec![0; circuit_check(texts.circuit, texts.lemmas)?.k];
+    let report = job(texts, budget, &mut marks).answer_of(texts)?;
+    Ok(Marked { marks: truths(&marks), decisions: report.decisions })
+}
+
+/// What a listing of rows of k bytes comes to; none if it was refused before it began.
+fn listing(report: Report, k: usize, bytes: &[u8]) -> Option<Listing> {
+    let ended = match report.number {
+        0 => Ended::Complete,
+        10 => Ended::Spent,
+        12 => Ended::Full,
+        _ => return None,
+    };
+    let rows = (0..report.rows).map(|row| truths(&bytes[row * k..(row + 1) * k])).collect();
+    Some(Listing { rows, decisions: report.decisions, ended })
 }
 
 fn truths(marks: &[u8]) -> Vec<bool> {
@@ -155,8 +222,28 @@ mod tests {
     fn too_few_bytes_for_marks_are_refused_and_left() {
         let mut bytes = [7; 2];
         let refusal = library::one(B, 1_000_000, &mut bytes).refusal();
-        assert_eq!(refusal, Refusal { number: 9, place: None, decisions: 0 });
+        assert_eq!(refusal, Refusal { number: 9, place: None, text: None, decisions: 0 });
         assert_eq!(bytes, [7, 7]);
+    }
+
+    #[test]
+    fn a_problem_file_is_written_whole_or_not_at_all() {
+        let texts = Texts { circuit: b"aag 1 0 1 1 0\n2 2\n2\n", lemmas: b"-1 0\n" };
+        let mut bytes = [7; 47];
+        let report = library::circuit_problem(texts, &mut bytes);
+        assert_eq!((report.number, report.rows, report.n, report.m, report.k), (0, 46, 1, 0, 1));
+        assert_eq!((bytes[45], bytes[46]), (0, 7));
+        let mut short = [7; 45];
+        assert_eq!(library::circuit_problem(texts, &mut short).number, 12);
+        assert_eq!(short, [7; 45]);
+    }
+
+    #[test]
+    fn a_text_at_fault_leaves_the_lent_bytes() {
+        let mut bytes = [7; 3];
+        assert_eq!(library::circuit_one(Texts { circuit: b"aag", lemmas: b"" }, 9, &mut bytes).number, 13);
+        assert_eq!(library::circuit_list(Texts { circuit: b"aag 0 0 0 0 0\n", lemmas: b"" }, 9, &mut bytes).number, 14);
+        assert_eq!(bytes, [7; 3]);
     }
 
     #[test]

@@ -5,12 +5,24 @@ use std::fmt;
 /// Why a call gave no answer.
 #[derive(Clone, Copy, Debug, PartialEq, Eq)]
 pub struct Refusal {
-    /// 1 to 12, as `include/trim.h` and the project's README.md have them.
+    /// 1 to 14, as `include/trim.h` and the project's README.md have them.
     pub number: u32,
-    /// The byte offset in the file of what refusals 1 to 8 speak of; the others have none.
+    /// The byte offset of what refusals 1 to 8 speak of in the file, and of the line that 13 speaks of in its text; the others
+    /// have none.
     pub place: Option<usize>,
+    /// The text that refusal 13 speaks of; the others have none.
+    pub text: Option<Text>,
     /// The decisions counted up to the refusal; for refusal 10 the budget.
     pub decisions: u64,
+}
+
+/// One of the two texts that a job on a circuit is given.
+#[derive(Clone, Copy, Debug, PartialEq, Eq)]
+pub enum Text {
+    /// The circuit, in ASCII AIGER.
+    Circuit,
+    /// The lemmas, one a line.
+    Lemmas,
 }
 
 impl Refusal {
@@ -29,6 +41,8 @@ impl Refusal {
             10 => "the budget of decisions is used up; a larger one may do",
             11 => "no subset of these candidates is safe and inductive, which does not say that the loader is unsafe",
             12 => "a row was found that does not fit the lent space",
+            13 => "a line is not as the text's format says",
+            14 => "the circuit or its lemmas are over a limit, or there is no latch, or not just one output",
             _ => "this number is not known here",
         }
     }
@@ -39,6 +53,11 @@ impl fmt::Display for Refusal {
         write!(f, "refusal {}", self.number)?;
         if let Some(place) = self.place {
             write!(f, " at byte {place}")?;
+        }
+        match self.text {
+            Some(Text::Circuit) => write!(f, " of the circuit")?,
+            Some(Text::Lemmas) => write!(f, " of the lemmas")?,
+            None => (),
         }
         write!(f, ": {}", self.words())
     }
@@ -52,21 +71,32 @@ mod tests {
     use std::collections::HashSet;
 
     fn words(number: u32) -> &'static str {
-        Refusal { number, place: None, decisions: 0 }.words()
+        Refusal { number, place: None, text: None, decisions: 0 }.words()
     }
 
     #[test]
     fn every_number_has_words_of_its_own() {
-        let all: HashSet<_> = (1..=12).map(words).collect();
-        assert_eq!(all.len(), 12);
-        assert!(!all.contains(words(13)));
+        let all: HashSet<_> = (1..=14).map(words).collect();
+        assert_eq!(all.len(), 14);
+        assert!(!all.contains(words(15)));
     }
 
     #[test]
     fn a_place_is_said_where_there_is_one() {
-        let cut = Refusal { number: 2, place: Some(42), decisions: 0 };
+        let cut = Refusal { number: 2, place: Some(42), text: None, decisions: 0 };
         assert_eq!(cut.to_string(), "refusal 2 at byte 42: a record is cut short");
-        let full = Refusal { number: 12, place: None, decisions: 3 };
+        let full = Refusal { number: 12, place: None, text: None, decisions: 3 };
         assert_eq!(full.to_string(), "refusal 12: a row was found that does not fit the lent space");
+    }
+
+    #[test]
+    fn a_line_at_fault_is_said_with_its_text() {
+        let circuit = Refusal { number: 13, place: Some(14), text: Some(Text::Circuit), decisions: 0 };
+        assert_eq!(
+            circuit.to_string(),
+            "refusal 13 at byte 14 of the circuit: a line is not as the text's format says"
+        );
+        let lemmas = Refusal { text: Some(Text::Lemmas), ..circuit };
+        assert_eq!(lemmas.to_string(), "refusal 13 at byte 14 of the lemmas: a line is not as the text's format says");
     }
 }

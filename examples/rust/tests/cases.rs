@@ -42,7 +42,7 @@ fn rows(rows: &[&str], decisions: u64, ended: Ended) -> Result<(Vec<String>, u64
 }
 
 fn no_place(number: u32, decisions: u64) -> Refusal {
-    Refusal { number, place: None, decisions }
+    Refusal { number, place: None, text: None, decisions }
 }
 
 #[test]
@@ -118,9 +118,9 @@ fn l_is_46_bytes_no_more_and_no_less() {
     let mut file = case("L");
     assert_eq!(file.len(), 46);
     assert_eq!(check(&file), Ok(Accepted { n: 1, m: 0, k: 1 }));
-    assert_eq!(check(&file[..45]), Err(Refusal { number: 2, place: Some(42), decisions: 0 }));
+    assert_eq!(check(&file[..45]), Err(Refusal { number: 2, place: Some(42), text: None, decisions: 0 }));
     file.push(0);
-    assert_eq!(check(&file), Err(Refusal { number: 8, place: Some(46), decisions: 0 }));
+    assert_eq!(check(&file), Err(Refusal { number: 8, place: Some(46), text: None, decisions: 0 }));
 }
 
 #[test]

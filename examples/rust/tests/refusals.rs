@@ -16,7 +16,7 @@ fn line(text: &str) -> (String, Refusal) {
     let name = format!("refusals/{}.problem", word());
     let number = word().parse().expect("a number");
     let place = word().parse().expect("a place");
-    (name, Refusal { number, place: Some(place), decisions: 0 })
+    (name, Refusal { number, place: Some(place), text: None, decisions: 0 })
 }
 
 fn index() -> Vec<(String, Refusal)> {
@@ -48,7 +48,7 @@ fn the_index_has_every_file_and_every_number() {
 
 #[test]
 fn an_empty_file_is_cut_short_at_its_start() {
-    let refusal = Refusal { number: 2, place: Some(0), decisions: 0 };
+    let refusal = Refusal { number: 2, place: Some(0), text: None, decisions: 0 };
     assert_eq!(check(&[]), Err(refusal));
     assert_eq!(largest(&[], 0), Err(refusal));
     assert_eq!(one(&[], 0), Err(refusal));
