@@ -1,7 +1,8 @@
 //! The benchmark: the proved library and the second program on the same calls, in one run, with the ratio of their times; how times grow
-//! with n and with k; and the peak stack of each job. `bench/run` builds both for this machine and prints the tables.
+//! with n and with k; how long reading takes at worst; and the peak stack of each job. `bench/run` builds both for this machine and prints the tables.
 
 mod library;
+mod reading;
 mod stack;
 
 use second::families::{arbiter, counter, ring};
@@ -99,6 +100,11 @@ fn deep_listing() -> Vec<u8> {
 
 fn peaks() {
     println!("\npeak stack of the proved library, bytes (the default stack is 8,388,608)");
+    let chain = reading::backwards();
+    let taken = stack::peak(move || {
+        library::circuit_check(&chain, &[]);
+    });
+    println!("{:<14} {:<8} {taken:>10}", "gates back", "circuit");
     let calls: [(&str, Job, Vec<u8>); 6] = [
         ("a full file", Job::Check, full()),
         ("510 decisions", Job::Largest, deep_search()),
@@ -120,6 +126,9 @@ fn main() {
     let said = |word: &str| std::env::args().any(|given| given == word);
     if said("stack") {
         return peaks();
+    }
+    if said("reading") {
+        return reading::lines();
     }
     let long = said("long");
     head();
@@ -148,5 +157,7 @@ fn main() {
         line(&format!("arbiter-{clients}"), Job::List, &arbiter(clients).to_bytes(), 1_000_000);
     }
     line("loader-3", Job::Largest, &loader(3).to_bytes(), 1_000_000);
+    println!();
+    reading::lines();
     peaks();
 }
