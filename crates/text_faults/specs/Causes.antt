@@ -12,7 +12,7 @@ use Rattle.text_faults.specs.declared.kind.Kind.{Kind}
 use Rattle.text_faults.specs.declared.kind.Kind.the-variants.{Header as HeaderLine, Input, Latch, Output, Gate, Symbol}
 use Rattle.text_faults.specs.declared.definers.Places.{Places}
 use Rattle.text_faults.specs.declared.cause.Cause.{Cause}
-use Rattle.text_faults.specs.declared.cause.Cause.the-variants.{NoAag, HeaderNumbers, HeaderSum, Numbers, Reset, Odd, Small, Range, Twice, Undefined, Stuck}
+use Rattle.text_faults.specs.declared.cause.Cause.the-variants.{Open, NoAag, HeaderNumbers, HeaderSum, Numbers, Reset, Odd, Small, Range, Twice, Undefined, Stuck}
 use Rattle.text_faults.specs.Definers.{known-here, earlier}
 
 -- a line of so many numbers, ended
@@ -21,7 +21,7 @@ numbered width text at = ended text at && of-numbers width (line-at text at)
 
 -- a header that is not right: it does not start with 'aag' and a space, or five numbers do not follow, or else their sum is over M
 unfoldable pub header-cause : List ℕ → Cause
-header-cause text = cond (starts text) (cond (numbered 5 text 4) HeaderSum HeaderNumbers) NoAag
+header-cause text = cond (starts text) (cond (ended text 0) (cond (numbered 5 text 4) HeaderSum HeaderNumbers) Open) NoAag
 
 -- a line that is not of so many numbers; a latch may have three
 abbrev pub numbers-cause : Kind → ℕ → List ℕ → ℕ → Cause

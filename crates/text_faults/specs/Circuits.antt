@@ -57,7 +57,7 @@ line-cause text at kind h next = cond (leb (length text) at) Missing (cond (ende
 
 unfoldable pub header-fault : List ℕ → Fault
 header-fault text =
-    record { kind = HeaderLine; cause = cond (eqb (length text) 0) Missing (cond (ended text 0) (header-cause text) Open) }
+    record { kind = HeaderLine; cause = cond (eqb (length text) 0) Missing (header-cause text) }
 
 -- the line at a place, by its number under the header
 abbrev pub line-fault : List ℕ → ℕ → Header → Fault
@@ -69,3 +69,7 @@ line-fault text at h =
 
 unfoldable pub circuit-fault : List ℕ → ℕ → Fault
 circuit-fault text at = cond (header-test text) (line-fault text at (header-of (line-at text 0))) (header-fault text)
+
+-- how many latches a header has; none, where it is not right
+unfoldable pub latches-of : List ℕ → ℕ
+latches-of text = cond (header-test text) (below-huge (capped (header-of (line-at text 0) .l))) 0

@@ -200,12 +200,12 @@ unfolding header-fault header-cause
 header-so text wrong =
     by-test text 0 (eqb (length text) 0) _ _ (λ e. omega (arith, eqb-true (length text) 0 e))
     (λ e.
-    by-test text 0 (ended text 0) _ _
-    (λ f.
     by-test text 0 (starts text) _ _
-    (λ g. by-test text 0 (numbered 5 text 4) _ _ (λ h. sum-over text wrong g h) (λ h. h))
-    (λ g. g))
+    (λ g.
+    by-test text 0 (ended text 0) _ _
+    (λ f. by-test text 0 (numbered 5 text 4) _ _ (λ h. sum-over text wrong g h) (λ h. h))
     (λ f. f))
+    (λ g. g))
 
 -- What is told of the line at a place is so; of a text whose header is not right, of its first line.
 pub told-so : (text : List ℕ) (at : ℕ) → (header-test text ≡ false → at ≡ 0) → So text at (circuit-fault text at .cause)

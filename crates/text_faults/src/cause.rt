@@ -10,6 +10,7 @@ use lines::literal::used_right;
 use lines::number::Number;
 use sections::line::Form;
 use sections::nth::nth;
+use symbols::line::line_end;
 ghost use mathlib.Core.Path.{_≡_};
 ghost use mathlib.Core.Bool.{cond};
 ghost use Prim.Native.Nat.{_<_, _≤_};
@@ -48,12 +49,15 @@ pub fn numbered(text: &[u8], at: usize, width: usize) -> bool
     line_past(text, at, width) != 0
 }
 
-// A header that is not right.
+// A header that is not right: another text altogether, not ended, or not as it should be.
 pub fn header_cause(text: &[u8]) -> Cause
     ensures { λ r. ⌜ r ≡ «header-cause» (now (text .entry)) ⌝ }
 {
     if !starts(text) {
         return Cause::NoAag;
+    }
+    if text.len() <= line_end(text, 0) {
+        return Cause::Open;
     }
     if numbered(text, 4, 5) {
         return Cause::HeaderSum;

@@ -22,7 +22,7 @@ ghost use Rattle.meaning.specs.Lines.{ended};
 ghost use Rattle.circuit_text.specs.Header.{Parts};
 ghost use Rattle.circuit_text.specs.Read.{«header-at»};
 ghost use Rattle.lines.specs.Numbers.{capped};
-ghost use Rattle.text_faults.specs.Circuits.{«below-huge», «symbol-cause», «form-cause», «closed-cause», «line-cause», «header-fault», «circuit-fault»};
+ghost use Rattle.text_faults.specs.Circuits.{«below-huge», «symbol-cause», «form-cause», «closed-cause», «line-cause», «header-fault», «circuit-fault», «latches-of»};
 
 // The kind of a line, and why it is refused.
 pub struct Fault {
@@ -153,7 +153,7 @@ fn line_cause(text: &[u8], at: usize, kind: Kind, h: Header) -> Cause
     closed_cause(text, at, kind, h)
 }
 
-// A header that is not right: it is missing, not ended, or not as it should be.
+// A header that is not right, or missing.
 fn header_fault(text: &[u8]) -> Fault
     ensures { λ r. ⌜ r ≡ «header-fault» (now (text .entry)) ⌝ }
 {
@@ -161,12 +161,6 @@ fn header_fault(text: &[u8]) -> Fault
         return Fault {
             kind: Kind::Header,
             cause: Cause::Missing,
-        };
-    }
-    if text.len() <= line_end(text, 0) {
-        return Fault {
-            kind: Kind::Header,
-            cause: Cause::Open,
         };
     }
     Fault {
@@ -188,4 +182,16 @@ pub fn circuit_fault(text: &[u8], at: usize) -> Fault
         kind,
         cause: line_cause(text, at, kind, h),
     }
+}
+
+// How many latches a header has, as far as they are told apart; none, where it is not right.
+pub fn latches_of(text: &[u8]) -> usize
+    ensures { λ r. ⌜ (r ≡ «latches-of» (now (text .entry))) × (r < 18446744073709551610) ⌝ }
+{
+    let h = read_header(text);
+    if !h.right {
+        return 0;
+    }
+    let l = h.l;
+    below_huge(l.value)
 }

@@ -2,6 +2,7 @@
 use mathlib.Core.Path.{sym, _∙_}
 use native.Mathlib.Omega.{arith}
 use borrow.Author.Tests.{not-true, not-false}
+use Rattle.symbols.specs.Walk.{is-closed, is-open}
 use Rattle.circuit_text.specs.Header.{four-in}
 use Rattle.text_faults.specs.Causes.{header-cause}
 use borrow.Author.Needs.{needs}
@@ -16,20 +17,32 @@ unfolding header-cause
 returns c =
     rw (sym (c .before .starts .ensures) ∙ not-true _ (c .if1 .taken))
 
-numbered-requires : tie.Need-numbered-requires
-numbered-requires c κs =
-    (four-in (c .before .before .before .args .text .now) (sym (c .before .starts .ensures) ∙ not-false _ (c .if1 .left)), omega arith)
+line-end-requires : tie.Need-line-end-requires
+line-end-requires c κs = search needs
 
 returns-2 : tie.Need-returns-2
 unfolding header-cause
 returns-2 c =
-    rw (sym (c .before .before .before .starts .ensures) ∙ not-false _ (c .before .before .if1 .left), sym (c .before .numbered .ensures) ∙ c .if2 .taken)
+    let t = c .before .before .before .before .before .args .text .now in
+    rw (sym (c .before .before .before .starts .ensures) ∙ not-false _ (c .before .before .if1 .left), is-open t 0 (c .before .line-end .result) (c .before .line-end .ensures) (c .if2 .taken))
+
+numbered-requires : tie.Need-numbered-requires
+numbered-requires c κs =
+    (four-in (c .before .before .before .before .before .args .text .now) (sym (c .before .before .before .starts .ensures) ∙ not-false _ (c .before .before .if1 .left)), omega arith)
 
 returns-3 : tie.Need-returns-3
 unfolding header-cause
 returns-3 c =
-    rw (sym (c .before .before .before .starts .ensures) ∙ not-false _ (c .before .before .if1 .left), sym (c .before .numbered .ensures) ∙ c .if2 .left)
+    let t = c .before .before .before .before .before .before .before .args .text .now in
+    rw (sym (c .before .before .before .before .before .starts .ensures) ∙ not-false _ (c .before .before .before .before .if1 .left), is-closed t 0 (c .before .before .before .line-end .result) (c .before .before .before .line-end .ensures) (c .before .before .if2 .left), sym (c .before .numbered .ensures) ∙ c .if3 .taken)
+
+returns-4 : tie.Need-returns-4
+unfolding header-cause
+returns-4 c =
+    let t = c .before .before .before .before .before .before .before .args .text .now in
+    rw (sym (c .before .before .before .before .before .starts .ensures) ∙ not-false _ (c .before .before .before .before .if1 .left), is-closed t 0 (c .before .before .before .line-end .result) (c .before .before .before .line-end .ensures) (c .before .before .if2 .left), sym (c .before .numbered .ensures) ∙ c .if3 .left)
 
 pub header-cause-spec : {M : Type 1} → statement M
 header-cause-spec =
-    tie.close (tie.spec starts-requires returns numbered-requires returns-2 returns-3)
+    tie.close
+    (tie.spec starts-requires returns line-end-requires returns-2 numbered-requires returns-3 returns-4)

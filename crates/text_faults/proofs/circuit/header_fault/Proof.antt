@@ -1,8 +1,7 @@
 -- `text_faults::circuit::header_fault` makes the definition's tests. Assumes nothing.
 use borrow.Author.Tests.{eq-eqb, ne-eqb}
-use mathlib.Core.Path.{ap, _∙_, sym}
+use mathlib.Core.Path.{ap}
 use lib.ListN.{length}
-use Rattle.symbols.specs.Walk.{is-closed, is-open}
 use Rattle.text_faults.specs.declared.cause.Cause.{Cause}
 use Rattle.text_faults.specs.declared.circuit.Fault.{Fault}
 use Rattle.text_faults.specs.declared.kind.Kind.the-variants
@@ -16,25 +15,16 @@ unfolding header-fault
 returns c =
     rw (eq-eqb (length (c .before .before .args .text .now)) 0 (c .if1 .taken))
 
-line-end-requires : tie.Need-line-end-requires
-line-end-requires c κs = search needs
+header-cause-requires : tie.Need-header-cause-requires
+header-cause-requires c κs = search needs
 
 returns-2 : tie.Need-returns-2
 unfolding header-fault
 returns-2 c =
-    let t = c .before .before .before .before .args .text .now in
-    rw (ne-eqb (length t) 0 (c .before .before .if1 .left), is-open t 0 (c .before .line-end .result) (c .before .line-end .ensures) (c .if2 .taken))
-
-header-cause-requires : tie.Need-header-cause-requires
-header-cause-requires c κs = search needs
-
-returns-3 : tie.Need-returns-3
-unfolding header-fault
-returns-3 c =
-    let t = c .before .before .before .before .before .args .text .now in
-    rw (ne-eqb (length t) 0 (c .before .before .before .if1 .left), is-closed t 0 (c .before .before .line-end .result) (c .before .before .line-end .ensures) (c .before .if2 .left))
+    let t = c .before .before .before .args .text .now in
+    rw (ne-eqb (length t) 0 (c .before .if1 .left))
     (ap (λ (x : Cause). record { kind = the-variants.Header; cause = x }) (c .header-cause .ensures))
 
 pub header-fault-spec : {M : Type 1} → statement M
 header-fault-spec =
-    tie.close (tie.spec returns line-end-requires returns-2 header-cause-requires returns-3)
+    tie.close (tie.spec returns header-cause-requires returns-2)
