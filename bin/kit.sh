@@ -8,6 +8,13 @@ clang=$tools/bin/clang
 emulator=$tools/bin/qemu-x86_64
 [ -x "$emulator" ] || emulator=
 
+# Proves and builds a crate, where that is not done. Two checks in one folder would meet, so a second one waits for the first. Called in the
+# project's folder.
+prove() { # CRATE
+    mkdir -p target
+    flock target/checking rt check "$1" >/dev/null
+}
+
 # The toolchain has no C headers; those that need no C library (stddef.h, stdint.h) come with any compiler.
 headers() { gcc -print-file-name=include; }
 
