@@ -6,13 +6,14 @@ use Rattle.words.specs.declared.order.Job.the-variants as ordered
 use Rattle.told.specs.declared.answers.Job.{Job}
 use Rattle.told.specs.declared.answers.Job.the-variants.{Check, Largest, One, List as Listing}
 
--- the job that a word names (help and version have none, and never come here)
+-- the job that a word names (problem, help and version have none, and never come here)
 abbrev pub job-told : Ordered.Job → Job
 job-told ordered.Awaited = Check
 job-told ordered.Check = Check
 job-told ordered.Largest = Largest
 job-told ordered.One = One
 job-told ordered.List = Listing
+job-told ordered.Problem = Check
 job-told ordered.Help = Check
 job-told ordered.Version = Check
 

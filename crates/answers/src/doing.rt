@@ -16,6 +16,7 @@ pub fn job_told(job: words::Job) -> Job
         words::Job::Largest => Job::Largest,
         words::Job::One => Job::One,
         words::Job::List => Job::List,
+        words::Job::Problem => Job::Check,
         words::Job::Help => Job::Check,
         words::Job::Version => Job::Check,
     }

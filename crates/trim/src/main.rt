@@ -3,14 +3,16 @@
 mod page;
 mod reading;
 mod telling;
+mod texts;
 
 use words::Job;
 use words::Order;
 
-// The order of the words, which of them names the file, and which was the last that was read.
+// The order of the words, which of them name the file and the lemma file (0 is none), and which was the last that was read.
 struct Given {
     order: Order,
     file: usize,
+    lemmas: usize,
     last: usize,
 }
 
@@ -27,15 +29,25 @@ fn names_file(order: Order, i: usize) -> bool {
     words::is_file(order, &buf[..n])
 }
 
+fn names_lemmas(order: Order, i: usize) -> bool {
+    let mut buf = io::large_buffer();
+    let n = os::arg(i, &mut buf);
+    words::is_lemmas(order, &buf[..n])
+}
+
 // The words in turn, up to the first that is at fault. Word 0 is the program's own name.
 fn read_words() -> Given {
     let count = os::arg_count();
     let mut order = words::begin();
     let mut file: usize = 0;
+    let mut lemmas: usize = 0;
     let mut i: usize = 1;
     while i < count {
         if names_file(order, i) {
             file = i;
+        }
+        if names_lemmas(order, i) {
+            lemmas = i;
         }
         order = taken(order, i);
         let fault = order.fault;
@@ -47,6 +59,7 @@ fn read_words() -> Given {
     Given {
         order: words::finish(order),
         file,
+        lemmas,
         last: i,
     }
 }
@@ -71,6 +84,16 @@ fn tell_version() {
     page::show(libc::STDOUT_FILENO, &page, end);
 }
 
+// The job on a problem file, or on a circuit and its lemmas.
+fn work(g: Given) {
+    let order = g.order;
+    if order.lemmas {
+        texts::work(order, g.file, g.lemmas);
+        return;
+    }
+    reading::work(order, g.file);
+}
+
 fn main() {
     let g = read_words();
     let order = g.order;
@@ -84,9 +107,10 @@ fn main() {
         Job::Awaited => {}
         Job::Help => tell_help(),
         Job::Version => tell_version(),
-        Job::Check => reading::work(order, g.file),
-        Job::Largest => reading::work(order, g.file),
-        Job::One => reading::work(order, g.file),
-        Job::List => reading::work(order, g.file),
+        Job::Check => work(g),
+        Job::Largest => work(g),
+        Job::One => work(g),
+        Job::List => work(g),
+        Job::Problem => work(g),
     }
 }

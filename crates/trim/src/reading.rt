@@ -1,4 +1,4 @@
-// The file: opened, read whole, and handed to the job.
+// A file: opened, and read whole. A problem file is handed to the job.
 use crate::page;
 use crate::telling;
 use words::Order;
@@ -22,6 +22,13 @@ fn read_once(fd: i32, buf: &mut [u8]) -> usize
         return buf.len() + 1;
     }
     io::count(got, buf)
+}
+
+// More than buf has.
+fn failed(buf: &[u8]) -> usize
+    ensures { λ r. ⌜ r ≡ length (now (buf .entry)) + 1 ⌝ }
+{
+    buf.len() + 1
 }
 
 // Reads until buf is full or the input ends, and answers how many bytes that were; where a read fails, one more than buf has.
@@ -53,36 +60,59 @@ fn tell_not_read(name: &[u8]) {
     page::fail(&page, end);
 }
 
-fn work_on(order: Order, name: &[u8], file: &[u8], n: usize) {
-    if file.len() < n {
+// Reads a file that is open. What fails is told, and then the answer is more than buf has.
+fn read_told(name: &[u8], fd: i32, buf: &mut [u8]) -> usize {
+    let n = read_all(fd, buf);
+    if buf.len() < n {
         tell_not_read(name);
-        return;
     }
-    telling::answer(order, &file[..n]);
+    n
 }
 
-fn read_from(order: Order, name: &[u8], fd: i32) {
-    let mut file = room();
-    let n = read_all(fd, &mut file);
-    work_on(order, name, &file, n);
-}
-
-// A dash is standard input.
-fn work_named(order: Order, name: &[u8]) {
-    if words::same(name, b"-") {
-        read_from(order, name, libc::STDIN_FILENO);
-        return;
+// Reads the file of a name, and answers how many bytes that were; a dash is standard input. What fails is told, and then the answer is more
+// than buf has.
+pub fn read_named(name: &[u8], buf: &mut [u8]) -> usize {
+    if words::is_input(name) {
+        return read_told(name, libc::STDIN_FILENO, buf);
     }
     let fd = os::open_read(name);
     if fd < 0 {
         tell_not_opened(name);
-        return;
+        return failed(buf);
     }
-    read_from(order, name, fd);
+    let n = read_told(name, fd, buf);
     libc::close(fd);
+    n
 }
 
-// The job on the file that a word names.
+fn tell_circuit_alone(name: &[u8]) {
+    let mut page = page::line();
+    let end = usage::circuit_alone(name, &mut page);
+    page::show(libc::STDERR_FILENO, &page, end);
+}
+
+// A circuit is no problem file.
+fn work_file(order: Order, name: &[u8], file: &[u8]) {
+    if words::is_circuit(file) {
+        tell_circuit_alone(name);
+        return;
+    }
+    telling::answer(order, file);
+}
+
+fn work_on(order: Order, name: &[u8], file: &[u8], n: usize) {
+    if n <= file.len() {
+        work_file(order, name, &file[..n]);
+    }
+}
+
+fn work_named(order: Order, name: &[u8]) {
+    let mut file = room();
+    let n = read_named(name, &mut file);
+    work_on(order, name, &file, n);
+}
+
+// The job on the problem file that a word names.
 pub fn work(order: Order, i: usize) {
     let mut buf = io::large_buffer();
     let n = os::arg(i, &mut buf);

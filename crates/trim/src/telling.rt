@@ -2,7 +2,7 @@
 // refusal to standard error, after the sets that a listing found before it.
 use crate::page;
 use answers::doing;
-use answers::lines;
+use answers::lines as told_lines;
 use libc::STDERR_FILENO;
 use libc::STDOUT_FILENO;
 use problem::Report;
@@ -11,7 +11,7 @@ use words::Order;
 
 fn tell_head(order: Order, job: Job, file: &[u8], r: Report, lent: &[u8]) -> bool {
     let mut page = page::line();
-    let end = lines::head_text(order.marks, job, file, r, lent, &mut page);
+    let end = told_lines::head_text(order.marks, job, file, r, lent, &mut page);
     page::show(STDOUT_FILENO, &page, end)
 }
 
@@ -43,7 +43,7 @@ fn tell_lemmas(file: &[u8], marks: &[u8]) -> bool {
 
 fn tell_set_line(order: Order, job: Job, number: usize, set: &[u8]) -> bool {
     let mut page = page::line();
-    let end = lines::set_text(order.marks, job, number, set, &mut page);
+    let end = told_lines::set_text(order.marks, job, number, set, &mut page);
     page::show(STDOUT_FILENO, &page, end)
 }
 
@@ -59,7 +59,7 @@ fn tell_set(order: Order, job: Job, file: &[u8], number: usize, set: &[u8]) -> b
 
 // So many sets of k marks, one behind the other.
 fn tell_sets(order: Order, job: Job, file: &[u8], lent: &[u8], count: usize) {
-    let k = lines::k_of(file);
+    let k = told_lines::k_of(file);
     let mut start: usize = 0;
     let mut told: usize = 0;
     while told < count {
@@ -74,7 +74,7 @@ fn tell_sets(order: Order, job: Job, file: &[u8], lent: &[u8], count: usize) {
 
 fn tell_error(order: Order, job: Job, file: &[u8], r: Report) {
     let mut page = page::line();
-    let end = lines::error_text(job, file, r, order.budget, order.space, &mut page);
+    let end = told_lines::error_text(job, file, r, order.budget, order.space, &mut page);
     page::show(STDERR_FILENO, &page, end);
 }
 
@@ -82,7 +82,7 @@ fn tell_error(order: Order, job: Job, file: &[u8], r: Report) {
 fn answer_on(order: Order, job: Job, file: &[u8], lent: &mut [u8]) {
     let r = doing::done(job, file, order.budget, lent);
     if tell_head(order, job, file, r, lent) {
-        tell_sets(order, job, file, lent, lines::sets_told(job, r));
+        tell_sets(order, job, file, lent, told_lines::sets_told(job, r));
     }
     tell_error(order, job, file, r);
 }

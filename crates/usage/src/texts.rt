@@ -8,7 +8,7 @@ ghost use mathlib.Core.Path.{_≡_};
 ghost use mathlib.Core.List.{map};
 ghost use Rattle.text.specs.Page.{Appends, Holds};
 ghost use Rattle.usage.specs.Texts.{«shown-byte», shown, around, allowed, «number-text», «fault-text»};
-ghost use Rattle.usage.specs.Texts.{«not-opened», «not-read», «version-text», «help-text»};
+ghost use Rattle.usage.specs.Texts.{«not-opened», «not-read», «circuit-alone», «version-text», «help-text»};
 
 fn shown_byte(b: u8) -> u8
     ensures { λ r. ⌜ r ≡ «shown-byte» b ⌝ }
@@ -35,7 +35,7 @@ fn put_shown(out: &mut [u8], at: usize, bytes: &[u8]) -> usize
 }
 
 // A word, cut at 200 bytes.
-fn put_word(out: &mut [u8], at: usize, word: &[u8]) -> usize
+pub fn put_word(out: &mut [u8], at: usize, word: &[u8]) -> usize
     ensures { λ r. ⌜ Appends (shown (now (word .entry))) (now (out .entry)) at (now (out .exit)) r ⌝ }
 {
     if word.len() <= 200 {
@@ -89,6 +89,21 @@ pub fn fault_line(o: Order, word: &[u8], out: &mut [u8]) -> usize
         Fault::TooLarge => put_number_fault(out, named, word, b" is too large: "),
         Fault::NoFile => put_all(out, 0, b"trim: no file is named: say trim --help\n"),
         Fault::NoJob => put_all(out, 0, b"trim: no job is named: say trim --help\n"),
+        Fault::NoLemmas => put_all(
+            out,
+            0,
+            b"trim: problem is of circuits, and no lemmas are named: add --lemmas FILE\n",
+        ),
+        Fault::NoLemmaFile => put_all(
+            out,
+            0,
+            b"trim: no file is named after --lemmas: add the name of the lemma file\n",
+        ),
+        Fault::TwoInputs => put_all(
+            out,
+            0,
+            b"trim: only one file can be standard input: name a file for the circuit or for the lemmas\n",
+        ),
     }
 }
 
@@ -103,6 +118,18 @@ pub fn not_read(word: &[u8], out: &mut [u8]) -> usize
     ensures { λ n. ⌜ Holds (now (out .entry)) («not-read» (now (word .entry))) (now (out .exit)) n ⌝ }
 {
     put_around(out, b"trim: cannot read ", word, b"")
+}
+
+// A circuit that was read as a problem file.
+pub fn circuit_alone(word: &[u8], out: &mut [u8]) -> usize
+    ensures { λ n. ⌜ Holds (now (out .entry)) («circuit-alone» (now (word .entry))) (now (out .exit)) n ⌝ }
+{
+    put_around(
+        out,
+        b"trim: ",
+        word,
+        b" is a circuit, and its lemmas are missing: add --lemmas FILE\n",
+    )
 }
 
 pub fn version_line(out: &mut [u8]) -> usize
@@ -122,9 +149,15 @@ pub fn help_text(out: &mut [u8]) -> usize
         trim largest FILE [BUDGET]         the one inductive set that contains all others\n  \
         trim one FILE [BUDGET]             a minimal safe inductive set\n  \
         trim list FILE [BUDGET [SPACE]]    all minimal safe inductive sets, in order\n  \
+        trim JOB CIRCUIT --lemmas LEMMAS   the same of a circuit and its candidate lemmas\n  \
+        trim problem CIRCUIT --lemmas LEMMAS\n                                     \
+        the problem file that they make, to standard output\n  \
         trim --help                        this text\n  \
         trim --version                     the version\n\n\
         FILE      a problem file; - is standard input\n\
+        CIRCUIT   a circuit in ASCII AIGER (aag); - is standard input\n\
+        LEMMAS    a lemma a line: numbers of latches, counted from 1, with - before one that is negated, and\n          \
+        a 0 at the end; - is standard input. --lemmas LEMMAS stands anywhere after the job\n\
         BUDGET    how many decisions may be made, 0 to 4294967295; 1000000 where none is given\n\
         SPACE     how many bytes the sets of a listing may take, one for each candidate in each set,\n          \
         0 to 1048576; 65536 where none is given\n\

@@ -14,7 +14,8 @@ use Rattle.words.specs.declared.number.Number.the-variants.{Value, Over,
 use Rattle.words.specs.declared.order.Job.{Job}
 use Rattle.words.specs.declared.order.Order.{Order}
 use Rattle.words.specs.Orders.{budget-most, space-most, begun, faulty, awaited, most-words, job-of, with-budget, with-space}
-use Rattle.words.specs.Orders.{take-job, take-option, take-named, take-plain, take-word, lacking, finished, taken, order-of}
+use Rattle.words.specs.Orders.{is-input, take-job, take-marks, take-asked, take-option, take-file, take-lemmas, take-named, take-plain}
+use Rattle.words.specs.Orders.{take-open, take-word, needs-lemmas, lacking-lemmas, lacking-file, lacking, finished, taken, order-of}
 
 -- After a fault nothing changes: not by one word,
 pub fault-kept : (o : Order) (w : List ℕ) → faulty (o .fault) ≡ true → take-word o w ≡ o
@@ -68,16 +69,29 @@ module _ (o : Order) (h : Fits o) where
   number-fits w true = value-fits (value w) (ltb space-most (value w)) refl
   number-fits w false = same-space refl
 
+  file-fits : (w : List ℕ) → Fits (take-file o w)
+  unfolding take-file
+  file-fits w = either (is-input w) (either (o .input) (same-space refl) (same-space refl)) (same-space refl)
+
   named-fits : (w : List ℕ) → Fits (take-named o w)
   unfolding take-named number-of
   named-fits w =
-      either (eqb (o .named) 0) (same-space refl)
+      either (eqb (o .named) 0) (file-fits w)
       (either (eqb (o .named) 1) (budget-fits (number-of w budget-most)) (number-fits w (is-number w)))
 
   option-fits : (w : List ℕ) → Fits (take-option o w)
-  unfolding take-option
+  unfolding take-option take-marks take-asked
   option-fits w =
-      either (same w (ascii "--marks")) (either (ltb 1 (most-words (o .job))) (same-space refl) (same-space refl)) (same-space refl)
+      either (same w (ascii "--marks")) (either (ltb 1 (most-words (o .job))) (same-space refl) (same-space refl))
+      (either (same w (ascii "--lemmas"))
+      (either (o .lemmas) (same-space refl) (either (ltb 0 (most-words (o .job))) (same-space refl) (same-space refl)))
+      (same-space refl))
+
+  lemmas-fits : (w : List ℕ) → Fits (take-lemmas o w)
+  unfolding take-lemmas
+  lemmas-fits w =
+      either (is-option w) (same-space refl)
+      (either (is-input w) (either (o .input) (same-space refl) (same-space refl)) (same-space refl))
 
   job-fits : (j : Job) → Fits (take-job o j)
   unfolding take-job
@@ -88,16 +102,20 @@ module _ (o : Order) (h : Fits o) where
   plain-fits w = either (ltb (o .named) (most-words (o .job))) (named-fits w) (same-space refl)
 
   word-fits : (w : List ℕ) → Fits (take-word o w)
-  unfolding take-word
+  unfolding take-word take-open
   word-fits w =
       either (faulty (o .fault)) h
-      (either (awaited (o .job)) (job-fits (job-of w)) (either (is-option w) (option-fits w) (plain-fits w)))
+      (either (awaited (o .job)) (job-fits (job-of w))
+      (either (o .awaiting) (lemmas-fits w) (either (is-option w) (option-fits w) (plain-fits w))))
 
   end-fits : Fits (finished o)
-  unfolding finished lacking
+  unfolding finished lacking lacking-file lacking-lemmas
   end-fits =
       either (faulty (o .fault)) h
-      (either (awaited (o .job)) (same-space refl) (either (eqb (o .named) 0 && ltb 0 (most-words (o .job))) (same-space refl) h))
+      (either (awaited (o .job)) (same-space refl)
+      (either (o .awaiting) (same-space refl)
+      (either (eqb (o .named) 0) (either (ltb 0 (most-words (o .job))) (same-space refl) h)
+      (either (o .lemmas) h (either (needs-lemmas (o .job)) (same-space refl) h)))))
 
 taken-fits : (o : Order) (ws : List (List ℕ)) → Fits o → Fits (taken o ws)
 unfolding taken

@@ -1,7 +1,7 @@
 -- Laws of words: the test says that they are the same; a byte more of two words, of digits, and of a value.
 use Prim.Native.Nat.{ℕ, zero, suc, _+_, _*_, _-_, _≤_, _<_}
 use mathlib.Core.Path.{_≡_, refl, sym, ap, ap₂, _∙_}
-use mathlib.Core.Bool.{Bool, true, false, _&&_, and-false}
+use mathlib.Core.Bool.{Bool, true, false, _&&_, and-false, cond}
 use mathlib.Core.List.{List, [], _∷_}
 use native.Mathlib.Omega.{arith}
 use native.Mathlib.Numerals.{add-one}
@@ -82,3 +82,10 @@ pub value-grows : (v : ℕ) (w : List ℕ) → v ≤ value-after v w
 unfolding value-after
 value-grows v [] = omega arith
 value-grows v (b ∷ w) = omega (arith, value-grows (10 * v + (b - 48)) w)
+
+-- what is chosen where the test is known
+pub chosen : {A : Type 0} (b : Bool) (x y : A) → b ≡ true → cond b x y ≡ x
+chosen b x y e = rw e
+
+pub passed : {A : Type 0} (b : Bool) (x y : A) → b ≡ false → cond b x y ≡ y
+passed b x y e = rw e

@@ -16,3 +16,7 @@ same (x ∷ xs) (y ∷ ys) = eqb x y && same xs ys
 -- whether a word starts with two dashes
 unfoldable pub is-option : List ℕ → Bool
 is-option w = leb 2 (length w) && same (take 2 w) (ascii "--")
+
+-- whether a file starts as a circuit does
+unfoldable pub is-circuit : List ℕ → Bool
+is-circuit file = leb 3 (length file) && same (take 3 file) (ascii "aag")

@@ -1,6 +1,6 @@
 // Words compared, byte by byte.
 ghost use mathlib.Core.Path.{_≡_};
-ghost use Rattle.words.specs.Words.{same, «is-option»};
+ghost use Rattle.words.specs.Words.{same, «is-option», «is-circuit»};
 
 // Whether two words are the same.
 pub fn same(word: &[u8], other: &[u8]) -> bool
@@ -27,4 +27,14 @@ pub fn is_option(word: &[u8]) -> bool
         return false;
     }
     same(&word[..2], b"--")
+}
+
+// Whether a file starts as a circuit does: with the bytes of `aag`.
+pub fn is_circuit(file: &[u8]) -> bool
+    ensures { λ r. ⌜ r ≡ «is-circuit» (now (file .entry)) ⌝ }
+{
+    if file.len() < 3 {
+        return false;
+    }
+    same(&file[..3], b"aag")
 }

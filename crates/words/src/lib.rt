@@ -4,6 +4,7 @@ mod number;
 mod order;
 mod taking;
 
+pub use compare::is_circuit;
 pub use compare::same;
 pub use number::Number;
 pub use number::read_number;
@@ -14,4 +15,6 @@ pub use order::begin;
 pub use order::faulty;
 pub use taking::finish;
 pub use taking::is_file;
+pub use taking::is_input;
+pub use taking::is_lemmas;
 pub use taking::take;

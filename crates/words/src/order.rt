@@ -1,8 +1,9 @@
 // The order that a command line gives, and what each word may add to it.
 use crate::number::Number;
 ghost use mathlib.Core.Path.{_≡_};
-ghost use Rattle.words.specs.Orders.{begun, faulty, awaited, «most-words», «take-job»};
-ghost use Rattle.words.specs.Orders.{«with-fault», «with-job», «with-marks», «with-file», «with-budget», «with-space»};
+ghost use Rattle.words.specs.Orders.{begun, faulty, awaited, «most-words», «needs-lemmas», «take-job»};
+ghost use Rattle.words.specs.Orders.{«with-fault», «with-job», «with-marks», «with-awaiting», «with-lemmas»};
+ghost use Rattle.words.specs.Orders.{«with-file», «with-budget», «with-space»};
 
 // What is to be done. Awaited: no word was read yet.
 pub enum Job {
@@ -11,6 +12,7 @@ pub enum Job {
     Largest,
     One,
     List,
+    Problem,
     Help,
     Version,
 }
@@ -24,16 +26,23 @@ pub enum Fault {
     TooLarge,
     NoFile,
     NoJob,
+    NoLemmas,
+    NoLemmaFile,
+    TwoInputs,
 }
 
 // The order so far: the job, how many words were named for it (file, budget, space, in this order), whether marks alone are wanted, the
-// budget in decisions, the space in bytes, and the first fault.
+// budget in decisions, the space in bytes, whether the next word names the lemma file, whether that is named, whether a file is standard
+// input, and the first fault.
 pub struct Order {
     pub job: Job,
     pub named: usize,
     pub marks: bool,
     pub budget: u32,
     pub space: usize,
+    pub awaiting: bool,
+    pub lemmas: bool,
+    pub input: bool,
     pub fault: Fault,
 }
 
@@ -54,6 +63,9 @@ pub fn begin() -> Order
         marks: false,
         budget: 1000000,
         space: 65536,
+        awaiting: false,
+        lemmas: false,
+        input: false,
         fault: Fault::Nothing,
     }
 }
@@ -70,6 +82,9 @@ pub fn faulty(fault: Fault) -> bool
         Fault::TooLarge => true,
         Fault::NoFile => true,
         Fault::NoJob => true,
+        Fault::NoLemmas => true,
+        Fault::NoLemmaFile => true,
+        Fault::TwoInputs => true,
     }
 }
 
@@ -83,6 +98,7 @@ pub fn awaited(job: Job) -> bool
         Job::Largest => false,
         Job::One => false,
         Job::List => false,
+        Job::Problem => false,
         Job::Help => false,
         Job::Version => false,
     }
@@ -98,8 +114,25 @@ pub fn most_words(job: Job) -> usize
         Job::Largest => 2,
         Job::One => 2,
         Job::List => 3,
+        Job::Problem => 1,
         Job::Help => 0,
         Job::Version => 0,
+    }
+}
+
+// Whether a job is of circuits alone.
+pub fn needs_lemmas(job: Job) -> bool
+    ensures { λ r. ⌜ r ≡ «needs-lemmas» job ⌝ }
+{
+    match job {
+        Job::Awaited => false,
+        Job::Check => false,
+        Job::Largest => false,
+        Job::One => false,
+        Job::List => false,
+        Job::Problem => true,
+        Job::Help => false,
+        Job::Version => false,
     }
 }
 
@@ -114,6 +147,9 @@ impl Order {
             marks: self.marks,
             budget: self.budget,
             space: self.space,
+            awaiting: self.awaiting,
+            lemmas: self.lemmas,
+            input: self.input,
             fault,
         }
     }
@@ -128,6 +164,9 @@ impl Order {
             marks: self.marks,
             budget: self.budget,
             space: self.space,
+            awaiting: self.awaiting,
+            lemmas: self.lemmas,
+            input: self.input,
             fault,
         }
     }
@@ -139,10 +178,27 @@ impl Order {
         self
     }
 
-    pub fn with_file(mut self) -> Order
-        ensures { λ r. ⌜ r ≡ «with-file» self ⌝ }
+    pub fn with_awaiting(mut self) -> Order
+        ensures { λ r. ⌜ r ≡ «with-awaiting» self ⌝ }
+    {
+        self.awaiting = true;
+        self
+    }
+
+    pub fn with_lemmas(mut self, input: bool) -> Order
+        ensures { λ r. ⌜ r ≡ «with-lemmas» self input ⌝ }
+    {
+        self.awaiting = false;
+        self.lemmas = true;
+        self.input = input;
+        self
+    }
+
+    pub fn with_file(mut self, input: bool) -> Order
+        ensures { λ r. ⌜ r ≡ «with-file» self input ⌝ }
     {
         self.named = 1;
+        self.input = input;
         self
     }
 

@@ -8,9 +8,11 @@ use crate::order::Order;
 use crate::order::awaited;
 use crate::order::faulty;
 use crate::order::most_words;
+use crate::order::needs_lemmas;
 ghost use mathlib.Core.Path.{_≡_};
-ghost use Rattle.words.specs.Orders.{«job-of», «take-option», «take-named», «take-plain», «take-word»};
-ghost use Rattle.words.specs.Orders.{lacking, finished, «is-file»};
+ghost use Rattle.words.specs.Orders.{«job-of», «is-input», «take-file», «take-lemmas», «take-marks», «take-asked»};
+ghost use Rattle.words.specs.Orders.{«take-option», «take-named», «take-plain», «take-open», «take-word»};
+ghost use Rattle.words.specs.Orders.{«lacking-lemmas», «lacking-file», lacking, finished, «is-file», «is-lemmas»};
 
 // Which job a word names.
 fn job_of(word: &[u8]) -> Job
@@ -28,6 +30,9 @@ fn job_of(word: &[u8]) -> Job
     if same(word, b"list") {
         return Job::List;
     }
+    if same(word, b"problem") {
+        return Job::Problem;
+    }
     if same(word, b"--help") {
         return Job::Help;
     }
@@ -37,13 +42,10 @@ fn job_of(word: &[u8]) -> Job
     Job::Awaited
 }
 
-// `--marks` goes with every job that marks; no other word starts with two dashes.
-fn take_option(o: Order, word: &[u8]) -> Order
-    ensures { λ r. ⌜ r ≡ «take-option» o (now (word .entry)) ⌝ }
+// `--marks` goes with every job that marks.
+fn take_marks(o: Order) -> Order
+    ensures { λ r. ⌜ r ≡ «take-marks» o ⌝ }
 {
-    if !same(word, b"--marks") {
-        return o.with_fault(Fault::Unknown);
-    }
     let job = o.job;
     if 1 < most_words(job) {
         return o.with_marks();
@@ -51,12 +53,77 @@ fn take_option(o: Order, word: &[u8]) -> Order
     o.with_fault(Fault::Superfluous)
 }
 
+// `--lemmas` goes once with every job that has a file.
+fn take_asked(o: Order) -> Order
+    ensures { λ r. ⌜ r ≡ «take-asked» o ⌝ }
+{
+    if o.lemmas {
+        return o.with_fault(Fault::Superfluous);
+    }
+    let job = o.job;
+    if 0 < most_words(job) {
+        return o.with_awaiting();
+    }
+    o.with_fault(Fault::Superfluous)
+}
+
+// No other word starts with two dashes.
+fn take_option(o: Order, word: &[u8]) -> Order
+    ensures { λ r. ⌜ r ≡ «take-option» o (now (word .entry)) ⌝ }
+{
+    if same(word, b"--marks") {
+        return take_marks(o);
+    }
+    if same(word, b"--lemmas") {
+        return take_asked(o);
+    }
+    o.with_fault(Fault::Unknown)
+}
+
+// A dash is standard input.
+pub fn is_input(word: &[u8]) -> bool
+    ensures { λ r. ⌜ r ≡ «is-input» (now (word .entry)) ⌝ }
+{
+    same(word, b"-")
+}
+
+// The file's name. Only one file may be standard input.
+fn take_file(o: Order, word: &[u8]) -> Order
+    ensures { λ r. ⌜ r ≡ «take-file» o (now (word .entry)) ⌝ }
+{
+    let input = o.input;
+    if !is_input(word) {
+        return o.with_file(input);
+    }
+    if input {
+        return o.with_fault(Fault::TwoInputs);
+    }
+    o.with_file(true)
+}
+
+// The lemma file's name, which does not start with two dashes.
+fn take_lemmas(o: Order, word: &[u8]) -> Order
+    ensures { λ r. ⌜ r ≡ «take-lemmas» o (now (word .entry)) ⌝ }
+{
+    if is_option(word) {
+        return o.with_fault(Fault::NoLemmaFile);
+    }
+    let input = o.input;
+    if !is_input(word) {
+        return o.with_lemmas(input);
+    }
+    if input {
+        return o.with_fault(Fault::TwoInputs);
+    }
+    o.with_lemmas(true)
+}
+
 // The file's name, then the budget, then the space.
 fn take_named(o: Order, word: &[u8]) -> Order
     ensures { λ r. ⌜ r ≡ «take-named» o (now (word .entry)) ⌝ }
 {
     if o.named == 0 {
-        return o.with_file();
+        return take_file(o, word);
     }
     if o.named == 1 {
         return o.with_budget(read_number(word, Order::BUDGET_MOST));
@@ -75,6 +142,19 @@ fn take_plain(o: Order, word: &[u8]) -> Order
     o.with_fault(Fault::Superfluous)
 }
 
+// A word after the job.
+fn take_open(o: Order, word: &[u8]) -> Order
+    ensures { λ r. ⌜ r ≡ «take-open» o (now (word .entry)) ⌝ }
+{
+    if o.awaiting {
+        return take_lemmas(o, word);
+    }
+    if is_option(word) {
+        return take_option(o, word);
+    }
+    take_plain(o, word)
+}
+
 // One word more. After a fault nothing changes.
 pub fn take(o: Order, word: &[u8]) -> Order
     ensures { λ r. ⌜ r ≡ «take-word» o (now (word .entry)) ⌝ }
@@ -87,10 +167,35 @@ pub fn take(o: Order, word: &[u8]) -> Order
     if awaited(job) {
         return o.take_job(job_of(word));
     }
-    if is_option(word) {
-        return take_option(o, word);
+    take_open(o, word)
+}
+
+// A job of circuits has a lemma file.
+fn lacking_lemmas(o: Order) -> Order
+    ensures { λ r. ⌜ r ≡ «lacking-lemmas» o ⌝ }
+{
+    if o.lemmas {
+        return o;
     }
-    take_plain(o, word)
+    let job = o.job;
+    if needs_lemmas(job) {
+        return o.with_fault(Fault::NoLemmas);
+    }
+    o
+}
+
+// A job that has a file has one named.
+fn lacking_file(o: Order) -> Order
+    ensures { λ r. ⌜ r ≡ «lacking-file» o ⌝ }
+{
+    if o.named != 0 {
+        return lacking_lemmas(o);
+    }
+    let job = o.job;
+    if 0 < most_words(job) {
+        return o.with_fault(Fault::NoFile);
+    }
+    o
 }
 
 fn lacking(o: Order) -> Order
@@ -100,13 +205,10 @@ fn lacking(o: Order) -> Order
     if awaited(job) {
         return o.with_fault(Fault::NoJob);
     }
-    if o.named != 0 {
-        return o;
+    if o.awaiting {
+        return o.with_fault(Fault::NoLemmaFile);
     }
-    if 0 < most_words(job) {
-        return o.with_fault(Fault::NoFile);
-    }
-    o
+    lacking_file(o)
 }
 
 // After the last word: what is still missing is a fault.
@@ -128,4 +230,14 @@ pub fn is_file(o: Order, word: &[u8]) -> bool
         return false;
     }
     take(o, word).named == 1
+}
+
+// Whether a word is the lemma file's name.
+pub fn is_lemmas(o: Order, word: &[u8]) -> bool
+    ensures { λ r. ⌜ r ≡ «is-lemmas» o (now (word .entry)) ⌝ }
+{
+    if o.lemmas {
+        return false;
+    }
+    take(o, word).lemmas
 }

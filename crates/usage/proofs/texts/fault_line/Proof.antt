@@ -68,9 +68,37 @@ slice-aggregate-put-all-2 c = search needs
 put-all-requires-2 : tie.Need-put-all-requires-2
 put-all-requires-2 c κs = search needs
 
+enum-told-8 : tie.Need-enum-told-8
+enum-told-8 c = search needs
+
+slice-aggregate-put-all-3 : tie.Need-slice-aggregate-put-all-3
+slice-aggregate-put-all-3 c = search needs
+
+put-all-requires-3 : tie.Need-put-all-requires-3
+put-all-requires-3 c κs = search needs
+
+enum-told-9 : tie.Need-enum-told-9
+enum-told-9 c = search needs
+
+slice-aggregate-put-all-4 : tie.Need-slice-aggregate-put-all-4
+slice-aggregate-put-all-4 c = search needs
+
+put-all-requires-4 : tie.Need-put-all-requires-4
+put-all-requires-4 c κs = search needs
+
+enum-told-10 : tie.Need-enum-told-10
+enum-told-10 c = search needs
+
+slice-aggregate-put-all-5 : tie.Need-slice-aggregate-put-all-5
+slice-aggregate-put-all-5 c = search needs
+
+put-all-requires-5 : tie.Need-put-all-requires-5
+put-all-requires-5 c κs = search needs
+
 returns : tie.Need-returns
 unfolding fault-text
-returns c = rw (c .enum-told .given .1) (holds-none _)
+returns c =
+    rw (c .enum-told .given .1) (holds-none _)
 
 same-length : tie.Need-same-length
 same-length c = search needs
@@ -78,8 +106,7 @@ same-length c = search needs
 returns-2 : tie.Need-returns-2
 unfolding fault-text
 returns-2 c =
-    let p = c .before .before in
-    rw (p .before .before .before .before .enum-told2 .given .1) (from-start (p .put-around .ensures))
+    rw (c .before .before .before .before .before .before .enum-told2 .given .1) (from-start (c .before .before .put-around .ensures))
 
 same-length-2 : tie.Need-same-length-2
 same-length-2 c = search needs
@@ -87,8 +114,7 @@ same-length-2 c = search needs
 returns-3 : tie.Need-returns-3
 unfolding fault-text
 returns-3 c =
-    let p = c .before .before in
-    rw (p .before .before .before .before .enum-told3 .given .1) (from-start (p .put-around2 .ensures))
+    rw (c .before .before .before .before .before .before .enum-told3 .given .1) (from-start (c .before .before .put-around2 .ensures))
 
 same-length-3 : tie.Need-same-length-3
 same-length-3 c = search needs
@@ -96,8 +122,7 @@ same-length-3 c = search needs
 returns-4 : tie.Need-returns-4
 unfolding fault-text
 returns-4 c =
-    let p = c .before .before in
-    rw (p .before .before .before .enum-told4 .given .1) (from-start (p .put-number-fault .ensures))
+    rw (c .before .before .before .before .before .enum-told4 .given .1) (from-start (c .before .before .put-number-fault .ensures))
 
 same-length-4 : tie.Need-same-length-4
 same-length-4 c = search needs
@@ -105,8 +130,7 @@ same-length-4 c = search needs
 returns-5 : tie.Need-returns-5
 unfolding fault-text
 returns-5 c =
-    let p = c .before .before in
-    rw (p .before .before .before .enum-told5 .given .1) (from-start (p .put-number-fault2 .ensures))
+    rw (c .before .before .before .before .before .enum-told5 .given .1) (from-start (c .before .before .put-number-fault2 .ensures))
 
 same-length-5 : tie.Need-same-length-5
 same-length-5 c = search needs
@@ -114,8 +138,7 @@ same-length-5 c = search needs
 returns-6 : tie.Need-returns-6
 unfolding fault-text
 returns-6 c =
-    let p = c .before .before in
-    rw (p .before .before .before .enum-told6 .given .1) (from-start (p .put-all .ensures))
+    rw (c .before .before .before .before .before .enum-told6 .given .1) (from-start (c .before .before .put-all .ensures))
 
 same-length-6 : tie.Need-same-length-6
 same-length-6 c = search needs
@@ -123,8 +146,31 @@ same-length-6 c = search needs
 returns-7 : tie.Need-returns-7
 unfolding fault-text
 returns-7 c =
-    let p = c .before .before in
-    rw (p .before .before .before .enum-told7 .given .1) (from-start (p .put-all2 .ensures))
+    rw (c .before .before .before .before .before .enum-told7 .given .1) (from-start (c .before .before .put-all2 .ensures))
+
+same-length-7 : tie.Need-same-length-7
+same-length-7 c = search needs
+
+returns-8 : tie.Need-returns-8
+unfolding fault-text
+returns-8 c =
+    rw (c .before .before .before .before .before .enum-told8 .given .1) (from-start (c .before .before .put-all3 .ensures))
+
+same-length-8 : tie.Need-same-length-8
+same-length-8 c = search needs
+
+returns-9 : tie.Need-returns-9
+unfolding fault-text
+returns-9 c =
+    rw (c .before .before .before .before .before .enum-told9 .given .1) (from-start (c .before .before .put-all4 .ensures))
+
+same-length-9 : tie.Need-same-length-9
+same-length-9 c = search needs
+
+returns-10 : tie.Need-returns-10
+unfolding fault-text
+returns-10 c =
+    rw (c .before .before .before .before .before .enum-told10 .given .1) (from-start (c .before .before .put-all5 .ensures))
 
 pub fault-line-spec : {M : Type 1} → statement M
 fault-line-spec =
@@ -151,6 +197,15 @@ fault-line-spec =
     enum-told-7
     slice-aggregate-put-all-2
     put-all-requires-2
+    enum-told-8
+    slice-aggregate-put-all-3
+    put-all-requires-3
+    enum-told-9
+    slice-aggregate-put-all-4
+    put-all-requires-4
+    enum-told-10
+    slice-aggregate-put-all-5
+    put-all-requires-5
     returns
     same-length
     returns-2
@@ -163,4 +218,10 @@ fault-line-spec =
     same-length-5
     returns-6
     same-length-6
-    returns-7)
+    returns-7
+    same-length-7
+    returns-8
+    same-length-8
+    returns-9
+    same-length-9
+    returns-10)

@@ -25,11 +25,9 @@ same-requires-2 c κs = search needs
 returns-2 : tie.Need-returns-2
 unfolding job-of
 returns-2 c =
-    let e2 = c in
-    let e1 = e2 .before .before .before in
     rw (
-      sym (e1 .before .same .ensures) ∙ e1 .if1 .left,
-      sym (e2 .before .same2 .ensures) ∙ e2 .if2 .taken,
+      sym (c .before .before .before .before .same .ensures) ∙ c .before .before .before .if1 .left,
+      sym (c .before .same2 .ensures) ∙ c .if2 .taken,
     )
 
 slice-aggregate-same-3 : tie.Need-slice-aggregate-same-3
@@ -41,13 +39,10 @@ same-requires-3 c κs = search needs
 returns-3 : tie.Need-returns-3
 unfolding job-of
 returns-3 c =
-    let e3 = c in
-    let e2 = e3 .before .before .before in
-    let e1 = e2 .before .before .before in
     rw (
-      sym (e1 .before .same .ensures) ∙ e1 .if1 .left,
-      sym (e2 .before .same2 .ensures) ∙ e2 .if2 .left,
-      sym (e3 .before .same3 .ensures) ∙ e3 .if3 .taken,
+      sym (c .before .before .before .before .before .before .before .same .ensures) ∙ c .before .before .before .before .before .before .if1 .left,
+      sym (c .before .before .before .before .same2 .ensures) ∙ c .before .before .before .if2 .left,
+      sym (c .before .same3 .ensures) ∙ c .if3 .taken,
     )
 
 slice-aggregate-same-4 : tie.Need-slice-aggregate-same-4
@@ -59,15 +54,11 @@ same-requires-4 c κs = search needs
 returns-4 : tie.Need-returns-4
 unfolding job-of
 returns-4 c =
-    let e4 = c in
-    let e3 = e4 .before .before .before in
-    let e2 = e3 .before .before .before in
-    let e1 = e2 .before .before .before in
     rw (
-      sym (e1 .before .same .ensures) ∙ e1 .if1 .left,
-      sym (e2 .before .same2 .ensures) ∙ e2 .if2 .left,
-      sym (e3 .before .same3 .ensures) ∙ e3 .if3 .left,
-      sym (e4 .before .same4 .ensures) ∙ e4 .if4 .taken,
+      sym (c .before .before .before .before .before .before .before .before .before .before .same .ensures) ∙ c .before .before .before .before .before .before .before .before .before .if1 .left,
+      sym (c .before .before .before .before .before .before .before .same2 .ensures) ∙ c .before .before .before .before .before .before .if2 .left,
+      sym (c .before .before .before .before .same3 .ensures) ∙ c .before .before .before .if3 .left,
+      sym (c .before .same4 .ensures) ∙ c .if4 .taken,
     )
 
 slice-aggregate-same-5 : tie.Need-slice-aggregate-same-5
@@ -79,17 +70,12 @@ same-requires-5 c κs = search needs
 returns-5 : tie.Need-returns-5
 unfolding job-of
 returns-5 c =
-    let e5 = c in
-    let e4 = e5 .before .before .before in
-    let e3 = e4 .before .before .before in
-    let e2 = e3 .before .before .before in
-    let e1 = e2 .before .before .before in
     rw (
-      sym (e1 .before .same .ensures) ∙ e1 .if1 .left,
-      sym (e2 .before .same2 .ensures) ∙ e2 .if2 .left,
-      sym (e3 .before .same3 .ensures) ∙ e3 .if3 .left,
-      sym (e4 .before .same4 .ensures) ∙ e4 .if4 .left,
-      sym (e5 .before .same5 .ensures) ∙ e5 .if5 .taken,
+      sym (c .before .before .before .before .before .before .before .before .before .before .before .before .before .same .ensures) ∙ c .before .before .before .before .before .before .before .before .before .before .before .before .if1 .left,
+      sym (c .before .before .before .before .before .before .before .before .before .before .same2 .ensures) ∙ c .before .before .before .before .before .before .before .before .before .if2 .left,
+      sym (c .before .before .before .before .before .before .before .same3 .ensures) ∙ c .before .before .before .before .before .before .if3 .left,
+      sym (c .before .before .before .before .same4 .ensures) ∙ c .before .before .before .if4 .left,
+      sym (c .before .same5 .ensures) ∙ c .if5 .taken,
     )
 
 slice-aggregate-same-6 : tie.Need-slice-aggregate-same-6
@@ -101,37 +87,45 @@ same-requires-6 c κs = search needs
 returns-6 : tie.Need-returns-6
 unfolding job-of
 returns-6 c =
-    let e6 = c in
-    let e5 = e6 .before .before .before in
-    let e4 = e5 .before .before .before in
-    let e3 = e4 .before .before .before in
-    let e2 = e3 .before .before .before in
-    let e1 = e2 .before .before .before in
     rw (
-      sym (e1 .before .same .ensures) ∙ e1 .if1 .left,
-      sym (e2 .before .same2 .ensures) ∙ e2 .if2 .left,
-      sym (e3 .before .same3 .ensures) ∙ e3 .if3 .left,
-      sym (e4 .before .same4 .ensures) ∙ e4 .if4 .left,
-      sym (e5 .before .same5 .ensures) ∙ e5 .if5 .left,
-      sym (e6 .before .same6 .ensures) ∙ e6 .if6 .taken,
+      sym (c .before .before .before .before .before .before .before .before .before .before .before .before .before .before .before .before .same .ensures) ∙ c .before .before .before .before .before .before .before .before .before .before .before .before .before .before .before .if1 .left,
+      sym (c .before .before .before .before .before .before .before .before .before .before .before .before .before .same2 .ensures) ∙ c .before .before .before .before .before .before .before .before .before .before .before .before .if2 .left,
+      sym (c .before .before .before .before .before .before .before .before .before .before .same3 .ensures) ∙ c .before .before .before .before .before .before .before .before .before .if3 .left,
+      sym (c .before .before .before .before .before .before .before .same4 .ensures) ∙ c .before .before .before .before .before .before .if4 .left,
+      sym (c .before .before .before .before .same5 .ensures) ∙ c .before .before .before .if5 .left,
+      sym (c .before .same6 .ensures) ∙ c .if6 .taken,
     )
+
+slice-aggregate-same-7 : tie.Need-slice-aggregate-same-7
+slice-aggregate-same-7 c = search needs
+
+same-requires-7 : tie.Need-same-requires-7
+same-requires-7 c κs = search needs
 
 returns-7 : tie.Need-returns-7
 unfolding job-of
 returns-7 c =
-    let e6 = c in
-    let e5 = e6 .before .before .before in
-    let e4 = e5 .before .before .before in
-    let e3 = e4 .before .before .before in
-    let e2 = e3 .before .before .before in
-    let e1 = e2 .before .before .before in
     rw (
-      sym (e1 .before .same .ensures) ∙ e1 .if1 .left,
-      sym (e2 .before .same2 .ensures) ∙ e2 .if2 .left,
-      sym (e3 .before .same3 .ensures) ∙ e3 .if3 .left,
-      sym (e4 .before .same4 .ensures) ∙ e4 .if4 .left,
-      sym (e5 .before .same5 .ensures) ∙ e5 .if5 .left,
-      sym (e6 .before .same6 .ensures) ∙ e6 .if6 .left,
+      sym (c .before .before .before .before .before .before .before .before .before .before .before .before .before .before .before .before .before .before .before .same .ensures) ∙ c .before .before .before .before .before .before .before .before .before .before .before .before .before .before .before .before .before .before .if1 .left,
+      sym (c .before .before .before .before .before .before .before .before .before .before .before .before .before .before .before .before .same2 .ensures) ∙ c .before .before .before .before .before .before .before .before .before .before .before .before .before .before .before .if2 .left,
+      sym (c .before .before .before .before .before .before .before .before .before .before .before .before .before .same3 .ensures) ∙ c .before .before .before .before .before .before .before .before .before .before .before .before .if3 .left,
+      sym (c .before .before .before .before .before .before .before .before .before .before .same4 .ensures) ∙ c .before .before .before .before .before .before .before .before .before .if4 .left,
+      sym (c .before .before .before .before .before .before .before .same5 .ensures) ∙ c .before .before .before .before .before .before .if5 .left,
+      sym (c .before .before .before .before .same6 .ensures) ∙ c .before .before .before .if6 .left,
+      sym (c .before .same7 .ensures) ∙ c .if7 .taken,
+    )
+
+returns-8 : tie.Need-returns-8
+unfolding job-of
+returns-8 c =
+    rw (
+      sym (c .before .before .before .before .before .before .before .before .before .before .before .before .before .before .before .before .before .before .before .same .ensures) ∙ c .before .before .before .before .before .before .before .before .before .before .before .before .before .before .before .before .before .before .if1 .left,
+      sym (c .before .before .before .before .before .before .before .before .before .before .before .before .before .before .before .before .same2 .ensures) ∙ c .before .before .before .before .before .before .before .before .before .before .before .before .before .before .before .if2 .left,
+      sym (c .before .before .before .before .before .before .before .before .before .before .before .before .before .same3 .ensures) ∙ c .before .before .before .before .before .before .before .before .before .before .before .before .if3 .left,
+      sym (c .before .before .before .before .before .before .before .before .before .before .same4 .ensures) ∙ c .before .before .before .before .before .before .before .before .before .if4 .left,
+      sym (c .before .before .before .before .before .before .before .same5 .ensures) ∙ c .before .before .before .before .before .before .if5 .left,
+      sym (c .before .before .before .before .same6 .ensures) ∙ c .before .before .before .if6 .left,
+      sym (c .before .same7 .ensures) ∙ c .if7 .left,
     )
 
 pub job-of-spec : {M : Type 1} → statement M
@@ -156,4 +150,7 @@ job-of-spec =
     slice-aggregate-same-6
     same-requires-6
     returns-6
-    returns-7)
+    slice-aggregate-same-7
+    same-requires-7
+    returns-7
+    returns-8)

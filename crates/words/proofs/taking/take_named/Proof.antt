@@ -6,14 +6,13 @@ use borrow.Author.Needs.{needs}
 use Rattle.words.proofs.taking.take_named.Statement.{statement}
 use Rattle.words.proofs.taking.take_named.Tie as tie
 
-with-file-requires : tie.Need-with-file-requires
-with-file-requires c κs = search needs
+take-file-requires : tie.Need-take-file-requires
+take-file-requires c κs = search needs
 
 returns : tie.Need-returns
 unfolding take-named
 returns c =
-    let o = c .before .before .before .before .args .o in
-    rw (eq-eqb (o .named) 0 (c .before .if1 .taken)) (c .with-file .ensures)
+    rw (eq-eqb (c .before .before .before .before .args .o .named) 0 (c .before .if1 .taken)) (c .take-file .ensures)
 
 read-number-requires : tie.Need-read-number-requires
 read-number-requires c κs = search needs
@@ -24,10 +23,8 @@ with-budget-requires c κs = search needs
 returns-2 : tie.Need-returns-2
 unfolding take-named
 returns-2 c =
-    let t = c .before .before in
-    let e = t .before .before in
-    let o = e .before .before .before .args .o in
-    rw (ne-eqb (o .named) 0 (e .if1 .left), eq-eqb (o .named) 1 (t .if2 .taken))
+    let o = c .before .before .before .before .before .before .before .args .o in
+    rw (ne-eqb (o .named) 0 (c .before .before .before .before .if1 .left), eq-eqb (o .named) 1 (c .before .before .if2 .taken))
     (c .with-budget .ensures ∙ ap (with-budget o) (c .before .read-number .ensures))
 
 read-number-requires-2 : tie.Need-read-number-requires-2
@@ -39,17 +36,15 @@ with-space-requires c κs = search needs
 returns-3 : tie.Need-returns-3
 unfolding take-named
 returns-3 c =
-    let t = c .before .before in
-    let e = t .before .before in
-    let o = e .before .before .before .args .o in
-    rw (ne-eqb (o .named) 0 (e .if1 .left), ne-eqb (o .named) 1 (t .if2 .left))
+    let o = c .before .before .before .before .before .before .before .args .o in
+    rw (ne-eqb (o .named) 0 (c .before .before .before .before .if1 .left), ne-eqb (o .named) 1 (c .before .before .if2 .left))
     (c .with-space .ensures ∙ ap (with-space o) (c .before .read-number2 .ensures))
 
 pub take-named-spec : {M : Type 1} → statement M
 take-named-spec =
     tie.close
     (tie.spec
-    with-file-requires
+    take-file-requires
     returns
     read-number-requires
     with-budget-requires
