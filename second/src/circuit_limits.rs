@@ -66,9 +66,9 @@ fn long_circuit(random: &mut Random, bytes: usize) -> String {
 /// A chain of gates, each used before its line, or mostly so. Its end is a latch, or nothing defines it, or it is one
 /// of the chain.
 pub fn chain_pair(random: &mut Random) -> Pair {
-    let gates = match random.below(10) {
+    let gates = match random.below(40) {
         0 => 3_000 + random.below(1_000),
-        1 => 319 + random.below(3),
+        1..=4 => 319 + random.below(3),
         _ => 1 + random.below(40),
     };
     let literal = |at: usize| 2 * (at + 3);
