@@ -2,9 +2,9 @@
  * a circuit; with nothing to set up and nothing to free.
  *
  * Every call may be made with any bytes as the file or texts, any budget and any length of lent bytes: no prior check is asked. The only duties
- * of a caller are those of C: `file`, `circuit` and `lemmas` point to so many readable bytes, `marks` or `rows` to that many writable ones (a length of 0 takes any
- * pointer that is not null), `report` to seven words, and no two of them overlap. A call reads nothing else, writes nothing else, keeps
- * nothing, and takes no lock; calls may run side by side. It needs up to 1.5 MiB of stack.
+ * of a caller are those of C: what is `const` points to so many readable bytes, `marks`, `rows` and the `file` that is written to that many
+ * writable ones (a length of 0 takes any pointer that is not null), `report` to seven words, and no two of them overlap. A call reads nothing
+ * else, writes nothing else, keeps nothing, and takes no lock; calls may run side by side. It needs up to 1.5 MiB of stack.
  *
  * Each call returns the number of its answer, 0 for an answer and 1 to 14 for a refusal, and fills `report`:
  *
@@ -13,7 +13,7 @@
  *   report[2]  the decisions counted; for refusal 10 the budget
  *   report[3]  the rows written (a listing), or the bytes written (trim_circuit_problem)
  *   report[4]  n, the state variables          \
- *   report[5]  m, the inputs and helpers        > of a file that trim_check accepts
+ *   report[5]  m, the inputs and helpers        > where trim_check, trim_circuit_check or trim_circuit_problem answers 0
  *   report[6]  k, the candidate lemmas         /
  *
  * What is not given for an answer is 0.
@@ -23,7 +23,7 @@
  *    3  a kind out of place                         9  fewer than k bytes lent (trim_largest, trim_one)
  *    4  a body length not allowed for its kind     10  a decision wanted over the budget
  *    5  n or m out of range                        11  the largest inductive set isn't safe: no subset of these candidates would do
- *    6  literal 0, or a variable not for its kind  12  a row that doesn't fit (trim_list)
+ *    6  literal 0, or a variable not for its kind  12  what doesn't fit: a row (trim_list), a problem file (trim_circuit_problem)
  *
  *   13  a text that is not as its format says, at its first line at fault: the circuit's, and only if that is right the lemmas'
  *   14  a circuit and lemmas over the limits: a text over 65,536 bytes, no latch or more than 96, more than 320 inputs and gates, other than
@@ -61,7 +61,8 @@ uint32_t trim_one(const uint8_t *file, size_t file_len, uint32_t budget, uint8_t
  * first position where two differ, the one that has it comes first; the one set is the last row. Number 0 says that the list is complete. */
 uint32_t trim_list(const uint8_t *file, size_t file_len, uint32_t budget, uint8_t *rows, size_t rows_len, uint64_t report[7]);
 
-/* The same four jobs on a circuit in ASCII AIGER (the format of 2007) and a lemma text: one lemma a line, signed latch numbers closed by 0. */
+/* The same four jobs on a circuit in ASCII AIGER (the format of 2007) and a lemma text: one lemma a line, signed latch
+ * numbers closed by 0. Latches are numbered from 1, by the order of their lines, and are the state variables. */
 uint32_t trim_circuit_check(const uint8_t *circuit, size_t circuit_len, const uint8_t *lemmas, size_t lemmas_len, uint64_t report[7]);
 
 uint32_t trim_circuit_largest(const uint8_t *circuit, size_t circuit_len, const uint8_t *lemmas, size_t lemmas_len, uint32_t budget,
