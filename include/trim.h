@@ -27,12 +27,13 @@
  *
  *   13  a text that is not as its format says, at its first line at fault: the circuit's, and only if that is right the lemmas'
  *   14  a circuit and lemmas over the limits: a text over 65,536 bytes, no latch or more than 96, more than 320 inputs and gates, other than
- *       one output, more than 128 lemmas, a lemma of more than 64 literals
+ *       one literal in outputs and bad states together, more than 128 lemmas, a lemma of more than 64 literals, more than 4,096 clauses
+ *   15  a circuit with justice or fairness, which are not read
  *
- * Which text 13 speaks of: the circuit's, if the same call with an empty lemma text is refused by 13 too. Both come before 9; a circuit is never
- * refused by 1 to 8. docs/CIRCUITS.md says what the two texts are, and how they become a problem.
+ * Which text 13 speaks of: the circuit's, if the same call with an empty lemma text is refused by 13 too. 13, then 15, then 14
+ * come before 9; a circuit is never refused by 1 to 8. docs/CIRCUITS.md says what the two texts are, and how they become a problem.
  *
- * Refusals 1 to 9, 11, 13 and 14 write nothing but the report; so does 10, but for a listing, where 10 and 12 keep the rows already found. The budget
+ * Refusals 1 to 9, 11 and 13 to 15 write nothing but the report; so does 10, but for a listing, where 10 and 12 keep the rows already found. The budget
  * bounds the decisions of the whole call, 0 to 4,294,967,295. docs/FORMAT.md says what a problem file is. Init clauses and lemmas name state
  * variables (1 to n), Tr clauses every variable (1 to 2n+m), and Bad clauses all but next values (1 to n, 2n+1 to 2n+m): a state is bad if some
  * values of inputs and helpers satisfy all Bad clauses. Tr says nothing of Bad: what defines a helper that Bad names stands in Bad again.
@@ -61,7 +62,7 @@ uint32_t trim_one(const uint8_t *file, size_t file_len, uint32_t budget, uint8_t
  * first position where two differ, the one that has it comes first; the one set is the last row. Number 0 says that the list is complete. */
 uint32_t trim_list(const uint8_t *file, size_t file_len, uint32_t budget, uint8_t *rows, size_t rows_len, uint64_t report[7]);
 
-/* The same four jobs on a circuit in ASCII AIGER (the format of 2007) and a lemma text: one lemma a line, signed latch
+/* The same four jobs on a circuit in ASCII AIGER (of 2007, or of edition 1.9) and a lemma text: one lemma a line, signed latch
  * numbers closed by 0. Latches are numbered from 1, by the order of their lines, and are the state variables. */
 uint32_t trim_circuit_check(const uint8_t *circuit, size_t circuit_len, const uint8_t *lemmas, size_t lemmas_len, uint64_t report[7]);
 
@@ -74,7 +75,7 @@ uint32_t trim_circuit_one(const uint8_t *circuit, size_t circuit_len, const uint
 uint32_t trim_circuit_list(const uint8_t *circuit, size_t circuit_len, const uint8_t *lemmas, size_t lemmas_len, uint32_t budget,
                            uint8_t *rows, size_t rows_len, uint64_t report[7]);
 
-/* Write the problem file that is built from a circuit and its lemmas into the first of the lent bytes: report[3] says how many they are, 35,666 at
+/* Write the problem file that is built from a circuit and its lemmas into the first of the lent bytes: report[3] says how many they are, 46,220 at
  * most, and n, m and k are those of trim_check. Refused by 12, with nothing written, where they do not fit. Every job on that file answers as
  * the job on the circuit does. */
 uint32_t trim_circuit_problem(const uint8_t *circuit, size_t circuit_len, const uint8_t *lemmas, size_t lemmas_len, uint8_t *file,

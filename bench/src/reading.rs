@@ -30,20 +30,26 @@ fn best(mut turn: impl FnMut()) -> f64 {
     best
 }
 
-/// The lines of a text after its header, and the header's numbers.
+/// The lines of a text after its header, and the header's numbers; constraints make it one of edition 1.9.
 #[derive(Default)]
 struct Circuit {
     m: String,
     inputs: Vec<String>,
     outputs: Vec<String>,
+    constraints: Vec<String>,
     gates: Vec<String>,
     symbols: Vec<String>,
 }
 
 impl Circuit {
     fn text(&self) -> Vec<u8> {
-        let mut text = format!("aag {} {} 0 {} {}\n", self.m, self.inputs.len(), self.outputs.len(), self.gates.len());
-        for line in self.inputs.iter().chain(&self.outputs).chain(&self.gates).chain(&self.symbols) {
+        let mut text = format!("aag {} {} 0 {} {}", self.m, self.inputs.len(), self.outputs.len(), self.gates.len());
+        if !self.constraints.is_empty() {
+            text += &format!(" 0 {}", self.constraints.len());
+        }
+        text += "\n";
+        let first = self.inputs.iter().chain(&self.outputs).chain(&self.constraints);
+        for line in first.chain(&self.gates).chain(&self.symbols) {
             text += line;
             text += "\n";
         }
@@ -109,6 +115,16 @@ fn outputs() -> Vec<u8> {
     })
 }
 
+/// Constraints in their place.
+fn constraints() -> Vec<u8> {
+    longest(|count| {
+        let mut inputs = even(2, count / 2);
+        inputs.push("2".to_string());
+        let m = inputs.len().to_string();
+        Circuit { m, inputs, constraints: vec!["2".to_string(); count], ..Circuit::default() }
+    })
+}
+
 /// As many symbols as outputs of two bytes.
 fn symbols() -> Vec<u8> {
     longest(|count| {
@@ -149,12 +165,16 @@ pub fn lines() {
     println!("{:<18} {:>7} {:>6} {:>14} {:>10}", "text", "bytes", "number", "proved, us", "of loader");
     let (loader, lemmas) = (stored("loader.aag"), stored("loader.lemmas"));
     let usual = line("loader", &loader, &lemmas, None);
-    let texts: [(&str, Vec<u8>); 9] = [
+    for (name, pair) in [("assumed", "assumed"), ("most clauses", "read/newer-most")] {
+        line(name, &stored(&format!("{pair}.aag")), &stored(&format!("{pair}.lemmas")), Some(usual));
+    }
+    let texts: [(&str, Vec<u8>); 10] = [
         ("inputs", inputs()),
         ("both ends", both_ends()),
         ("gates back", backwards()),
         ("gates of the last", of_the_last()),
         ("outputs", outputs()),
+        ("constraints", constraints()),
         ("symbols", symbols()),
         ("long header", long_header()),
         ("long numbers", long_numbers()),

@@ -1,5 +1,6 @@
 //! Pairs of texts that are read, each with something that a reader could stumble on, and the problem they give.
 
+use crate::circuit_accepted_newer::newer_accepted;
 use crate::circuit_faults_late::{counted, padded};
 use crate::circuit_sample::{sample, Sample, PLAIN};
 use crate::file::Problem;
@@ -10,17 +11,22 @@ pub struct Accepted {
     pub built: &'static str,
 }
 
-fn accepted(name: &str, line: &str, circuit: &str, lemmas: &str, built: &'static str) -> Accepted {
+pub fn accepted(name: &str, line: &str, circuit: &str, lemmas: &str, built: &'static str) -> Accepted {
     Accepted { sample: sample(name, line, circuit.as_bytes(), lemmas.as_bytes(), 0), built }
 }
 
-const PLAIN_BUILT: &str =
+pub const PLAIN_BUILT: &str =
     "n=1 m=2; Init (-1); Tr (3 -4)(-1 -4)(4 -3 1)(-2 4)(2 -4); Bad (3 -4)(-1 -4)(4 -3 1)(1); lemmas (-1)";
 const INPUT_AND_LATCH: &str = "n=1 m=1; Init (-1); Tr (-2 3)(2 -3); Bad (1)";
 
-pub fn all_accepted() -> Vec<Accepted> {
+/// Those of edition 2007.
+pub fn older_accepted() -> Vec<Accepted> {
     let groups = [gates(), numbers(), symbols(), lemmas(), limits()];
     groups.into_iter().flatten().collect()
+}
+
+pub fn all_accepted() -> Vec<Accepted> {
+    older_accepted().into_iter().chain(newer_accepted()).collect()
 }
 
 fn gates() -> Vec<Accepted> {

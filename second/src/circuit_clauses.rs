@@ -1,7 +1,7 @@
-//! The clauses of a circuit, in the order the request's page fixes: latches in Init; gates and then latches in Tr; gates
-//! and then the output in Bad.
+//! The clauses of a circuit, in the order the requests' pages fix: latches in Init; gates, latches and then constraints
+//! in Tr; gates, the bad literal or output and then constraints in Bad.
 
-use crate::circuit_gates::{Edge, Source, Wired};
+use crate::circuit_gates::{Edge, Source, Start, Wired};
 use crate::circuit_lemmas::Lemma;
 use crate::file::{Clause, Problem};
 use crate::mutants::Rules;
@@ -72,29 +72,97 @@ pub fn build(wired: &Wired, lemmas: &[Lemma], rules: Rules) -> Problem {
     let written = |clauses: Vec<Vec<Value>>| clauses.iter().filter_map(|values| clause(values, rules)).collect();
     let gates: Vec<Vec<Value>> = (0..wired.gates.len()).flat_map(|at| gate_clauses(wired, &names, at)).collect();
     let latches: Vec<Vec<Value>> = (0..n).flat_map(|at| latch_clauses(wired, &names, at)).collect();
-    let outputs: Vec<Vec<Value>> = wired.outputs.iter().map(|&edge| vec![names.value(edge)]).collect();
-    let init = (0..n).map(|at| vec![start(names.latch(at), rules)]).collect();
+    let bad = bad_clauses(wired, &names);
+    let constraints = constraint_clauses(wired, &names);
+    let init = init_clauses(wired, &names);
     let tr = match rules {
-        Rules::LatchesBeforeGates => [latches, gates.clone()].concat(),
-        _ => [gates.clone(), latches].concat(),
+        Rules::LatchesBeforeGates => [latches, gates.clone(), constraints.clone()],
+        Rules::ConstraintsBeforeLatches => [gates.clone(), constraints.clone(), latches],
+        Rules::ConstraintMissingInTr => [gates.clone(), latches, vec![]],
+        Rules::ConstraintOnNextState => [gates.clone(), latches, on_next_state(wired, &names)],
+        _ => [gates.clone(), latches, constraints.clone()],
     };
     let bad = match rules {
-        Rules::OutputBeforeGates => [outputs, gates].concat(),
-        Rules::BadWithoutGates => outputs,
-        _ => [gates, outputs].concat(),
+        Rules::OutputBeforeGates => [bad, gates, constraints],
+        Rules::BadWithoutGates => [vec![], bad, constraints],
+        Rules::ConstraintsBeforeBad => [gates, constraints, bad],
+        Rules::ConstraintMissingInBad => [gates, bad, vec![]],
+        _ => [gates, bad, constraints],
     };
-    let init = if rules.breaks(Rules::StartIsFree) { vec![] } else { init };
     let lemmas = lemmas.iter().map(|lemma| lemma.iter().map(|&latch| latch as i16).collect()).collect();
-    Problem { n, m: names.inputs + names.gates, init: written(init), tr: written(tr), bad: written(bad), lemmas }
+    let m = names.inputs + names.gates;
+    Problem { n, m, init: written(init), tr: written(tr.concat()), bad: written(bad.concat()), lemmas }
 }
 
-/// Every latch starts at 0.
-fn start(latch: Value, rules: Rules) -> Value {
-    if rules.breaks(Rules::StartIsOne) {
-        latch
-    } else {
-        latch.not()
+/// How many clauses Init, Tr and Bad would have if no constant dropped one. Only a mutant asks.
+pub fn clauses_with_constants(wired: &Wired) -> usize {
+    let started = wired.starts.iter().filter(|&&start| start != Start::Either).count();
+    let bad = wired.bad.len() + wired.outputs.len();
+    started + 2 * wired.next.len() + 2 * 3 * wired.gates.len() + bad + 2 * wired.constraints.len()
+}
+
+/// (-i) for a latch that starts at 0, (i) for one that starts at 1, and none for one that starts at either.
+fn init_clauses(wired: &Wired, names: &Names) -> Vec<Vec<Value>> {
+    let latches = wired.starts.iter().enumerate();
+    let starts = latches.filter_map(|(at, &start)| start_clause(names.latch(at), start, names.rules));
+    let constraints = wired.constraints.iter().filter(|edge| matches!(edge.source, Source::Latch(_)));
+    match names.rules {
+        Rules::StartIsFree => vec![],
+        Rules::ConstraintInInit => starts.chain(constraints.map(|&edge| vec![names.value(edge)])).collect(),
+        _ => starts.collect(),
     }
+}
+
+fn start_clause(latch: Value, start: Start, rules: Rules) -> Option<Vec<Value>> {
+    match (start, rules) {
+        (Start::Zero, Rules::StartIsOne) => Some(vec![latch]),
+        (Start::Zero, _) => Some(vec![latch.not()]),
+        (Start::One, Rules::StartOneIsZero) => Some(vec![latch.not()]),
+        (Start::One, Rules::StartOneIsFree) => None,
+        (Start::One, _) => Some(vec![latch]),
+        (Start::Either, Rules::StartAtItselfIsZero) => Some(vec![latch.not()]),
+        (Start::Either, Rules::StartAtItselfIsOne) => Some(vec![latch]),
+        (Start::Either, Rules::FreeStartHasAClause) => Some(vec![latch, latch.not()]),
+        (Start::Either, _) => None,
+    }
+}
+
+/// The bad literal or, where there is none, the output.
+fn bad_clauses(wired: &Wired, names: &Names) -> Vec<Vec<Value>> {
+    let output_taken = names.rules.breaks(Rules::OutputBesideBadTaken) && !wired.outputs.is_empty();
+    if wired.bad.is_empty() || output_taken {
+        return wired.outputs.iter().map(|&edge| vec![names.value(edge)]).collect();
+    }
+    let holds = names.rules.breaks(Rules::BadLiteralMustHold);
+    let value = |edge: Edge| if holds { names.value(edge).not() } else { names.value(edge) };
+    wired.bad.iter().map(|&edge| vec![value(edge)]).collect()
+}
+
+/// A clause for each constraint, by line order.
+fn constraint_clauses(wired: &Wired, names: &Names) -> Vec<Vec<Value>> {
+    let rules = names.rules;
+    let negated = |edge: Edge| edge.negated && !rules.breaks(Rules::ConstraintNegationLost);
+    let value = |&edge: &Edge| names.value(Edge { negated: negated(edge), ..edge });
+    let mut values: Vec<Value> = wired.constraints.iter().map(value).collect();
+    match rules {
+        Rules::FirstConstraintOnly => values.truncate(1),
+        Rules::ConstraintsReversed => values.reverse(),
+        Rules::EqualConstraintsOnce => values.dedup(),
+        Rules::FalseConstraintDropped => values.retain(|&value| value != Value::Constant(false)),
+        Rules::ConstraintsAsOneClause if !values.is_empty() => return vec![values],
+        _ => {}
+    }
+    values.into_iter().map(|value| vec![value]).collect()
+}
+
+/// The constraints with next values in the place of latches. Only a mutant asks.
+fn on_next_state(wired: &Wired, names: &Names) -> Vec<Vec<Value>> {
+    let value = |&edge: &Edge| match edge.source {
+        Source::Latch(at) if edge.negated => names.next(at).not(),
+        Source::Latch(at) => names.next(at),
+        _ => names.value(edge),
+    };
+    wired.constraints.iter().map(|edge| vec![value(edge)]).collect()
 }
 
 /// g = a and b: (a -g)(b -g)(g -a -b).
@@ -157,10 +225,14 @@ pub fn reordered(wired: &Wired, inputs: &[usize], latches: &[usize], gates: &[us
         };
         Edge { source, ..edge }
     };
+    let all = |edges: &[Edge]| edges.iter().copied().map(edge).collect();
     Wired {
         inputs: wired.inputs,
+        starts: latches.iter().map(|&at| wired.starts[at]).collect(),
         next: latches.iter().map(|&at| edge(wired.next[at])).collect(),
-        outputs: wired.outputs.iter().copied().map(edge).collect(),
+        outputs: all(&wired.outputs),
+        bad: all(&wired.bad),
+        constraints: all(&wired.constraints),
         gates: gates.iter().map(|&at| wired.gates[at].map(edge)).collect(),
         order: vec![],
     }

@@ -3,7 +3,9 @@
 use crate::circuit_call::{CircuitCall, CircuitSubject};
 use crate::circuit_jobs::CircuitJob;
 use crate::circuit_shrink::shrink_circuit;
-use crate::circuit_source::{sources, stored_sources, CircuitSource, Kind};
+use crate::circuit_sorts::{sorts, Sort};
+use crate::circuit_source::{sources, stored_sources, CircuitSource, Edition, Kind};
+use crate::circuit_text::{definitions, header_alone, CircuitText};
 use crate::mutants::Rules;
 use crate::random::Random;
 use crate::subject::Second;
@@ -12,41 +14,88 @@ use std::fmt;
 /// The stored pairs come when so many turns have been taken.
 const STORED_TURN: usize = 200;
 
-/// What a comparison found: the calls made, how often each number was the answer, the calls with texts of each kind, for
-/// each job those that got past the texts, and the first difference made small.
+/// What a comparison found: the calls made, those of them with a header of edition 1.9, how often each number was the
+/// answer, the calls with texts of each kind, for each job those that got past the texts, the calls of each sort of
+/// edition 1.9, and the first difference made small.
 pub struct CircuitFound {
+    pub edition: Edition,
     pub calls: usize,
-    pub numbers: [usize; 15],
+    pub newer: usize,
+    pub numbers: [usize; 16],
     pub kinds: [usize; Kind::NAMES.len()],
     pub read: [usize; CircuitJob::ALL.len()],
+    pub sorts: [usize; Sort::NAMES.len()],
     pub difference: Option<String>,
 }
 
-/// Makes at least so many calls to both subjects, or fewer if one shows a difference.
-pub fn compare_circuits(one: &dyn CircuitSubject, other: &dyn CircuitSubject, calls: usize, seed: u64) -> CircuitFound {
+impl CircuitFound {
+    fn none(edition: Edition) -> CircuitFound {
+        CircuitFound {
+            edition,
+            calls: 0,
+            newer: 0,
+            numbers: [0; 16],
+            kinds: [0; Kind::NAMES.len()],
+            read: [0; CircuitJob::ALL.len()],
+            sorts: [0; Sort::NAMES.len()],
+            difference: None,
+        }
+    }
+
+    /// The calls that count: for edition 1.9 only those whose header, damaged or not, is of that edition.
+    pub fn counted(&self) -> usize {
+        match self.edition {
+            Edition::Older => self.calls,
+            Edition::Newer => self.newer,
+        }
+    }
+
+    fn count(&mut self, kind: Kind, job: CircuitJob, number: u64, newer: &Newer) {
+        self.calls += 1;
+        self.newer += newer.header as usize;
+        self.numbers[(number as usize).min(15)] += 1;
+        self.kinds[kind as usize] += 1;
+        self.read[job as usize] += (number < 13) as usize;
+        let found = newer.text.iter().flat_map(|text| sorts(text, number));
+        found.for_each(|sort| self.sorts[sort as usize] += 1);
+    }
+}
+
+/// Whether a text has a header of edition 1.9 and, if it has, the text read.
+struct Newer {
+    header: bool,
+    text: Option<CircuitText>,
+}
+
+fn newer(circuit: &[u8]) -> Newer {
+    let header = header_alone(circuit).is_some_and(|header| header.newer());
+    Newer { header, text: if header { definitions(circuit, Rules::TRUE).ok() } else { None } }
+}
+
+/// Makes at least so many calls that count to both subjects, or fewer if one shows a difference.
+pub fn compare_circuits(
+    one: &dyn CircuitSubject,
+    other: &dyn CircuitSubject,
+    edition: Edition,
+    calls: usize,
+    seed: u64,
+) -> CircuitFound {
     let mut random = Random(seed);
-    let mut found = CircuitFound {
-        calls: 0,
-        numbers: [0; 15],
-        kinds: [0; Kind::NAMES.len()],
-        read: [0; CircuitJob::ALL.len()],
-        difference: None,
-    };
+    let mut found = CircuitFound::none(edition);
     for turn in 0.. {
-        if found.calls >= calls {
+        if found.counted() >= calls {
             break;
         }
-        let next = if turn == STORED_TURN { stored_sources() } else { sources(&mut random) };
-        for call in next.iter().flat_map(|source| calls_with(source, &mut random)) {
-            let outcome = call.call.outcome(one);
-            let number = outcome.report.number;
-            found.calls += 1;
-            found.numbers[(number as usize).min(14)] += 1;
-            found.kinds[call.kind as usize] += 1;
-            found.read[call.call.job as usize] += (number < 13) as usize;
-            if outcome != call.call.outcome(other) {
-                found.difference = Some(explain(call.call, one, other));
-                return found;
+        let next = if turn == STORED_TURN { stored_sources(edition) } else { sources(&mut random, edition) };
+        for source in next {
+            let newer = newer(&source.pair[0]);
+            for call in calls_with(&source, &mut random) {
+                let outcome = call.outcome(one);
+                found.count(source.kind, call.job, outcome.report.number, &newer);
+                if outcome != call.outcome(other) {
+                    found.difference = Some(explain(call, one, other));
+                    return found;
+                }
             }
         }
     }
@@ -60,22 +109,16 @@ fn explain(call: CircuitCall, one: &dyn CircuitSubject, other: &dyn CircuitSubje
     format!("{small}\n{}\n{}", answers[0], answers[1])
 }
 
-struct KindCall {
-    kind: Kind,
-    call: CircuitCall,
-}
-
 /// The calls with one pair of texts: any three where it is refused, one where it is cut, else every job.
-fn calls_with(source: &CircuitSource, random: &mut Random) -> Vec<KindCall> {
+fn calls_with(source: &CircuitSource, random: &mut Random) -> Vec<CircuitCall> {
     let [circuit, lemmas] = source.pair.clone();
     let call = CircuitCall { job: CircuitJob::Check, circuit, lemmas, budget: source.cap, space: 0 };
     let few = if source.kind == Kind::Cut { 1 } else { 3 };
-    let calls: Vec<CircuitCall> = match call.problem() {
+    match call.problem() {
         None => (0..few).map(|_| any_call(random, &call)).collect(),
         Some(_) if source.kind == Kind::Cut => vec![any_call(random, &call)],
         Some(problem) => read_calls(random, &call, problem.k(), problem.to_bytes().len()),
-    };
-    calls.into_iter().map(|call| KindCall { kind: source.kind, call }).collect()
+    }
 }
 
 fn any_call(random: &mut Random, call: &CircuitCall) -> CircuitCall {
@@ -116,6 +159,13 @@ impl fmt::Display for CircuitFound {
         write!(out, "; read:")?;
         for (job, times) in CircuitJob::ALL.into_iter().zip(self.read) {
             write!(out, " {} {times}", job.name())?;
+        }
+        write!(out, "; edition {}", self.edition.name())?;
+        if self.edition == Edition::Newer {
+            write!(out, ": headers {}", self.newer)?;
+            for (name, times) in Sort::NAMES.iter().zip(self.sorts) {
+                write!(out, " {name} {times}")?;
+            }
         }
         match &self.difference {
             None => write!(out, "\nno difference"),

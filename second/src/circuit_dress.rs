@@ -1,7 +1,7 @@
 //! Circuit texts that say the same in other words: leading zeros, numbers of forty digits, symbols, comments; and
 //! symbol tables with faults.
 
-use crate::circuit_random::{shuffle, Drawn};
+use crate::circuit_random::{shuffle, Drawn, Row};
 use crate::random::Random;
 
 /// How literals are written: with leading zeros here and there, and behind digits that make them large.
@@ -49,17 +49,15 @@ impl Dress {
 /// The text of a circuit, dressed so.
 pub fn dressed(random: &mut Random, circuit: &Drawn, dress: &Dress) -> Vec<u8> {
     let mut text = format!("aag {}", dress.most(random, circuit.most));
-    let counts = [circuit.inputs.len(), circuit.latches.len(), circuit.outputs.len(), circuit.gates.len()];
-    for count in counts {
+    for count in circuit.counts() {
         text += &format!(" {}", dress.number(random, count.to_string()));
     }
     text += "\n";
-    let inputs = circuit.inputs.iter().map(|&literal| vec![literal]);
-    let latches = circuit.latches.iter().map(|literals| literals.to_vec());
-    let outputs = circuit.outputs.iter().map(|&literal| vec![literal]);
-    let gates = circuit.gates.iter().map(|literals| literals.to_vec());
-    for line in inputs.chain(latches).chain(outputs).chain(gates) {
-        let words: Vec<String> = line.iter().map(|&literal| dress.literal(random, literal)).collect();
+    for row in circuit.rows() {
+        let words: Vec<String> = match row {
+            Row::Literals(literals) => literals.iter().map(|&literal| dress.literal(random, literal)).collect(),
+            Row::Count(count) => vec![dress.number(random, count.to_string())],
+        };
         text += &(words.join(" ") + "\n");
     }
     text.into_bytes()
@@ -80,9 +78,9 @@ pub fn dressed_lemmas(random: &mut Random, circuit: &Drawn, dress: &Dress) -> Ve
 
 /// A table of symbols for some positions in any order, each once; in so many of a hundred tables with lines at fault.
 pub fn symbols(random: &mut Random, circuit: &Drawn, faults: usize) -> Vec<u8> {
-    let counts = [(b'i', circuit.inputs.len()), (b'l', circuit.latches.len()), (b'o', circuit.outputs.len())];
+    let counts = letter_counts(circuit);
     let mut lines: Vec<Vec<u8>> = Vec::new();
-    for (letter, count) in counts {
+    for &(letter, count) in &counts {
         for position in 0..count {
             if !random.once_in(3) {
                 lines.push(symbol(random, letter, position));
@@ -91,7 +89,7 @@ pub fn symbols(random: &mut Random, circuit: &Drawn, faults: usize) -> Vec<u8> {
     }
     if random.below(100) < faults {
         for _ in 0..1 + random.below(2) {
-            let (letter, count) = counts[random.below(3)];
+            let (letter, count) = counts[random.below(counts.len())];
             let position = random.below(count + 2);
             let other = b"bcjfIx"[random.below(6)];
             let line = match random.below(8) {
@@ -107,6 +105,16 @@ pub fn symbols(random: &mut Random, circuit: &Drawn, faults: usize) -> Vec<u8> {
     }
     shuffle(random, &mut lines);
     lines.concat()
+}
+
+/// Each letter that a symbol of this circuit may have, and what its position is below.
+fn letter_counts(circuit: &Drawn) -> Vec<(u8, usize)> {
+    let mut counts = vec![(b'i', circuit.inputs.len()), (b'l', circuit.latches.len()), (b'o', circuit.outputs.len())];
+    if circuit.numbers > 5 {
+        counts.extend([(b'b', circuit.bad.len()), (b'c', circuit.constraints.len())]);
+        counts.extend([(b'j', circuit.justice.len()), (b'f', circuit.fairness.len())]);
+    }
+    counts
 }
 
 fn symbol(random: &mut Random, letter: u8, position: usize) -> Vec<u8> {

@@ -1,4 +1,5 @@
-//! Circuit texts with a line that is at fault by itself or beside earlier lines. The sign @ stands before that line.
+//! Circuit texts of edition 2007 with a line that is at fault by itself or beside earlier lines. The sign @ stands
+//! before that line.
 
 use crate::circuit_sample::{sample, Sample};
 
@@ -11,8 +12,8 @@ const HEADERS: Table = &[
     ("header-no-space", "no space after the name", "@aag3 1 1 1 1\n2\n4 6\n4\n6 2 5\n"),
     ("header-name-only", "the name and no number", "@aag\n2\n4 6\n4\n6 2 5\n"),
     ("header-four", "four numbers", "@aag 3 1 1 1\n2\n4 6\n4\n"),
-    ("header-six", "six numbers", "@aag 3 1 1 1 1 0\n2\n4 6\n4\n6 2 5\n"),
-    ("header-nine", "nine numbers, as edition 1.9 has them", "@aag 3 1 1 1 1 0 0 0 0\n2\n4 6\n4\n6 2 5\n"),
+    ("header-ten", "ten numbers", "@aag 3 1 1 1 1 0 0 0 0 0\n2\n4 6\n4\n6 2 5\n"),
+    ("header-eleven", "eleven numbers", "@aag 3 1 1 1 1 0 0 0 0 0 0\n2\n4 6\n4\n6 2 5\n"),
     ("header-minus", "a minus", "@aag 3 1 1 1 -1\n2\n4 6\n4\n6 2 5\n"),
     ("header-plus", "a plus", "@aag 3 +1 1 1 1\n2\n4 6\n4\n6 2 5\n"),
     ("header-two-spaces", "two spaces", "@aag 3  1 1 1 1\n2\n4 6\n4\n6 2 5\n"),
@@ -56,6 +57,8 @@ const DEFINITIONS: Table = &[
     ("latch-next-over-then-form", "2M + 2, and a later line of no number", "aag 3 1 1 1 1\n2\n@4 8\n4\nx\n"),
     ("latch-one-number", "a latch line of one number", "aag 3 1 1 1 1\n2\n@4\n4\n6 2 5\n"),
     ("latch-start", "a latch line of three numbers", "aag 3 1 1 1 1\n2\n@4 6 0\n4\n6 2 5\n"),
+    ("latch-start-one", "a start of 1 under a header of five", "aag 3 1 1 1 1\n2\n@4 6 1\n4\n6 2 5\n"),
+    ("latch-start-itself", "a start at itself under a header of five", "aag 3 1 1 1 1\n2\n@4 6 4\n4\n6 2 5\n"),
     ("latch-two-spaces", "two spaces", "aag 3 1 1 1 1\n2\n@4  6\n4\n6 2 5\n"),
     ("latch-space-last", "a space at the end", "aag 3 1 1 1 1\n2\n@4 6 \n4\n6 2 5\n"),
     ("latch-space-first", "a space at the start", "aag 3 1 1 1 1\n2\n@ 4 6\n4\n6 2 5\n"),
@@ -116,6 +119,7 @@ const SYMBOLS: Table = &[
     ("comment-space", "a space after c", "aag 3 1 1 1 1\n2\n4 6\n4\n6 2 5\n@c \n"),
     ("comment-return", "a carriage return after c", "aag 3 1 1 1 1\n2\n4 6\n4\n6 2 5\n@c\r\n"),
     ("comment-early", "the line c before the gate", "aag 3 1 1 1 1\n2\n4 6\n4\n@c\n6 2 5\n"),
+    ("symbol-constraint", "the letter c and a position", "aag 3 1 1 1 1\n2\n4 6\n4\n6 2 5\n@c0 x\n"),
 ];
 
 /// All of them, with no lemmas.

@@ -1,5 +1,6 @@
 //! What a line of a circuit can be at fault for when all lines are known: a variable that no line defines, or a gate
-//! that cannot be worked out from constants, inputs and latches. If there is none, each literal is told where it leads.
+//! that cannot be worked out from constants, inputs and latches. If there is none, each literal is told where it leads,
+//! and each latch where it starts.
 
 use crate::circuit_text::{CircuitText, Line};
 use crate::file::Refusal;
@@ -24,47 +25,115 @@ pub struct Edge {
     pub negated: bool,
 }
 
-/// A circuit by its edges: of each latch the next value, of each output its value, of each gate the two inputs. The
-/// last is an order in which the gates can be worked out.
+/// Where a latch starts.
+#[derive(Clone, Copy, PartialEq, Eq, Debug)]
+pub enum Start {
+    Zero,
+    One,
+    Either,
+}
+
+/// A circuit by its edges: of each latch its start and the next value, of each output, bad literal and constraint its
+/// value, of each gate the two inputs. The last is an order in which the gates can be worked out.
 #[derive(Clone, Debug)]
 pub struct Wired {
     pub inputs: usize,
+    pub starts: Vec<Start>,
     pub next: Vec<Edge>,
     pub outputs: Vec<Edge>,
+    pub bad: Vec<Edge>,
+    pub constraints: Vec<Edge>,
     pub gates: Vec<[Edge; 2]>,
     pub order: Vec<usize>,
 }
 
+/// The edges of each section; nothing where no line defines the variable of one.
+struct Edges {
+    next: Vec<Option<Edge>>,
+    outputs: Vec<Option<Edge>>,
+    bad: Vec<Option<Edge>>,
+    constraints: Vec<Option<Edge>>,
+    justice: Vec<Option<Edge>>,
+    fairness: Vec<Option<Edge>>,
+    gates: Vec<Option<[Edge; 2]>>,
+}
+
 /// The edges of a circuit, or the first line that is at fault for them.
 pub fn wire(text: &CircuitText, undefined_judged: bool, circles_judged: bool, rules: Rules) -> Result<Wired, Refusal> {
-    let sources = sources(text);
-    let edge = |literal: &Number| edge(&sources, literal, undefined_judged);
-    let next: Vec<Option<Edge>> = text.latches.iter().map(|line| edge(&line.literals[1])).collect();
-    let outputs: Vec<Option<Edge>> = text.outputs.iter().map(|line| edge(&line.literals[0])).collect();
-    let gate = |line: &Line| Some([edge(&line.literals[1])?, edge(&line.literals[2])?]);
-    let gates: Vec<Option<[Edge; 2]>> = text.gates.iter().map(gate).collect();
-    let order = worked_out(&gates, &next, rules);
+    let edges = edges(text, undefined_judged, rules);
+    let gates = &edges.gates;
+    let order = worked_out(gates, &edges.next, rules);
     let mut worked = vec![!circles_judged; gates.len()];
     order.iter().for_each(|&at| worked[at] = true);
     if rules.breaks(Rules::NeedsACircleLetThrough) {
-        worked = (0..gates.len()).map(|at| worked[at] || (gates[at].is_some() && !on_circle(&gates, at))).collect();
+        worked = (0..gates.len()).map(|at| worked[at] || (gates[at].is_some() && !on_circle(gates, at))).collect();
     }
-    let late = |edge: Edge| matches!(edge.source, Source::Gate(at) if !worked[at]);
-    let for_its_gate = rules.breaks(Rules::LatchAtFaultForItsGate);
-    let users = text.latches.iter().zip(&next).chain(text.outputs.iter().zip(&outputs));
-    for (line, edge) in users {
-        if edge.is_none_or(|edge| for_its_gate && late(edge)) {
-            return Err(at_fault(line.place));
-        }
-    }
-    for (at, line) in text.gates.iter().enumerate() {
-        if gates[at].is_none() || !worked[at] {
-            return Err(at_fault(line.place));
-        }
+    if let Some(place) = first_fault(text, &edges, &worked, rules) {
+        return Err(at_fault(place));
     }
     let all = |edges: Vec<Option<Edge>>| edges.into_iter().flatten().collect();
-    let gates = gates.into_iter().flatten().collect();
-    Ok(Wired { inputs: text.inputs.len(), next: all(next), outputs: all(outputs), gates, order })
+    Ok(Wired {
+        inputs: text.inputs.len(),
+        starts: text.latches.iter().map(|line| start(line, text.header.newer(), rules)).collect(),
+        next: all(edges.next),
+        outputs: all(edges.outputs),
+        bad: all(edges.bad),
+        constraints: all(edges.constraints),
+        gates: edges.gates.into_iter().flatten().collect(),
+        order,
+    })
+}
+
+fn edges(text: &CircuitText, undefined_judged: bool, rules: Rules) -> Edges {
+    let sources = sources(text);
+    let but_for = |mutant: Rules| undefined_judged && !rules.breaks(mutant);
+    let edges = |lines: &[Line], at: usize, judged: bool| -> Vec<Option<Edge>> {
+        lines.iter().map(|line| edge(&sources, &line.literals[at], judged)).collect()
+    };
+    let [first, second] = [1, 2].map(|at| edges(&text.gates, at, undefined_judged));
+    Edges {
+        next: edges(&text.latches, 1, undefined_judged),
+        outputs: edges(&text.outputs, 0, undefined_judged),
+        bad: edges(&text.bad, 0, but_for(Rules::UndefinedBadIsFalse)),
+        constraints: edges(&text.constraints, 0, but_for(Rules::UndefinedConstraintIsFalse)),
+        justice: edges(&text.justice, 0, but_for(Rules::UndefinedJusticeLetThrough)),
+        fairness: edges(&text.fairness, 0, but_for(Rules::UndefinedFairnessLetThrough)),
+        gates: first.into_iter().zip(second).map(|(a, b)| Some([a?, b?])).collect(),
+    }
+}
+
+/// The place of the first line, in the order of the text, that uses a variable no line defines, or that is the line of
+/// a gate that cannot be worked out.
+fn first_fault(text: &CircuitText, edges: &Edges, worked: &[bool], rules: Rules) -> Option<usize> {
+    let late = |edge: Edge| matches!(edge.source, Source::Gate(at) if !worked[at]);
+    let in_section = |lines: &[Line], edges: &[Option<Edge>], for_its_gate: bool| {
+        let faulty = |edge: &Option<Edge>| edge.is_none_or(|edge| for_its_gate && late(edge));
+        edges.iter().position(faulty).map(|at| lines[at].place)
+    };
+    let latch_for_its_gate = rules.breaks(Rules::LatchAtFaultForItsGate);
+    let bad_for_its_gate = rules.breaks(Rules::BadAtFaultForItsGate);
+    let older = in_section(&text.latches, &edges.next, latch_for_its_gate)
+        .or_else(|| in_section(&text.outputs, &edges.outputs, latch_for_its_gate));
+    let newer = in_section(&text.bad, &edges.bad, bad_for_its_gate)
+        .or_else(|| in_section(&text.constraints, &edges.constraints, bad_for_its_gate))
+        .or_else(|| in_section(&text.justice, &edges.justice, bad_for_its_gate))
+        .or_else(|| in_section(&text.fairness, &edges.fairness, bad_for_its_gate));
+    let gate = (0..worked.len()).find(|&at| edges.gates[at].is_none() || !worked[at]).map(|at| text.gates[at].place);
+    match rules {
+        Rules::UndefinedInGatesFirst => older.or(gate).or(newer),
+        _ => older.or(newer).or(gate),
+    }
+}
+
+/// A latch line's third number is 0, 1 or the latch itself; without one the latch starts at 0.
+fn start(line: &Line, newer: bool, rules: Rules) -> Start {
+    match line.literals.get(2) {
+        None if newer && rules.breaks(Rules::MissingStartIsFree) => Start::Either,
+        None => Start::Zero,
+        Some(number) if number.is_zero() => Start::Zero,
+        Some(number) if *number == Number::of(1) => Start::One,
+        Some(_) => Start::Either,
+    }
 }
 
 /// What each variable stands for, by its even literal.

@@ -39,7 +39,7 @@ impl CircuitJob {
     }
 }
 
-/// Does one job. On 13 and 14 nothing is written.
+/// Does one job. On 13, 14 and 15 nothing is written.
 pub fn call(job: CircuitJob, texts: [&[u8]; 2], budget: u32, lent: &mut [u8], rules: Rules) -> Report {
     let [circuit, lemmas] = texts;
     let problem = match read(circuit, lemmas, rules) {
@@ -68,7 +68,12 @@ fn write_problem(problem: &Problem, lent: &mut [u8]) -> Report {
 fn refused(job: CircuitJob, refusal: Refusal, lemmas: &[u8], lent: &mut [u8], rules: Rules) -> Report {
     let lines = lemmas.iter().filter(|&&byte| byte == b'\n').count();
     let short = job.marks() && lent.len() < lines;
-    if rules.breaks(Rules::SpaceBeforeLimits) && refusal.number == 14 && short {
+    let space_first = match refusal.number {
+        14 => rules.breaks(Rules::SpaceBeforeLimits),
+        15 => rules.breaks(Rules::SpaceBeforeJustice),
+        _ => false,
+    };
+    if space_first && short {
         return Report { number: 9, ..Report::default() };
     }
     if rules.breaks(Rules::RefusalClearsMarks) {

@@ -8,7 +8,7 @@ use crate::random::Random;
 /// A circuit text and a lemma text.
 pub type Pair = [Vec<u8>; 2];
 
-fn pair(circuit: String, lemmas: String) -> Pair {
+pub fn pair(circuit: String, lemmas: String) -> Pair {
     [circuit.into_bytes(), lemmas.into_bytes()]
 }
 
@@ -63,14 +63,30 @@ fn long_circuit(random: &mut Random, bytes: usize) -> String {
     format!("{start}{}{end}", "-".repeat(bytes - start.len() - end.len()))
 }
 
-/// A chain of gates, each used before its line, or mostly so. Its end is a latch, or nothing defines it, or it is one
-/// of the chain.
+/// A chain of gates with an input 2 and a latch 4: M, what is next for the latch, a literal for the output, and the
+/// lines of the gates.
+pub struct Chain {
+    pub most: usize,
+    pub next: usize,
+    pub output: usize,
+    pub gates: Vec<String>,
+}
+
+/// A chain as a circuit with one output.
 pub fn chain_pair(random: &mut Random) -> Pair {
     let gates = match random.below(40) {
         0 => 3_000 + random.below(1_000),
         1..=4 => 319 + random.below(3),
         _ => 1 + random.below(40),
     };
+    let Chain { most, next, output, gates } = chain(random, gates);
+    let circuit = format!("aag {most} 1 1 1 {}\n2\n4 {next}\n{output}\n{}", gates.len(), gates.concat());
+    pair(circuit, ["", "-1 0\n", "1 -0\n"][random.below(3)].to_string())
+}
+
+/// A chain of so many gates, each used before its line, or mostly so. Its end is a latch, or nothing defines it, or it
+/// is one of the chain.
+pub fn chain(random: &mut Random, gates: usize) -> Chain {
     let literal = |at: usize| 2 * (at + 3);
     let end = match random.below(6) {
         0 => literal(gates),
@@ -89,9 +105,7 @@ pub fn chain_pair(random: &mut Random) -> Pair {
         1 => lines.swap(0, gates - 1),
         _ => {}
     }
-    let most = gates + 3;
     let output = literal(random.below(gates + 1));
     let next = literal(random.below(gates));
-    let circuit = format!("aag {most} 1 1 1 {gates}\n2\n4 {next}\n{output}\n{}", lines.concat());
-    pair(circuit, ["", "-1 0\n", "1 -0\n"][random.below(3)].to_string())
+    Chain { most: gates + 3, next, output, gates: lines }
 }

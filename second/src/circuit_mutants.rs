@@ -1,4 +1,5 @@
-//! The mutants that break a rule of circuits (request 2026-02), each with what it does instead of the rule.
+//! The mutants that break a rule of circuits (request 2026-02), each with what it does instead of the rule. Those of
+//! edition 1.9 alone are in `circuit_mutants_newer`.
 
 use crate::mutants::Rules;
 
@@ -13,8 +14,8 @@ pub const CIRCUIT_MUTANTS: &[(Rules, &str)] = &[
     (Rules::LargeNumbersCut, "of a number only the lowest 64 bits are read"),
     (Rules::LastNewlineLeftOut, "a last line needs no newline"),
     (Rules::MissingAtTheLineBefore, "the place of a missing line is the line before it"),
-    (Rules::LongHeaderLetThrough, "a header may have more than five numbers"),
-    (Rules::LatchStartLetThrough, "a latch line may have a third number"),
+    (Rules::LongHeaderLetThrough, "a header may have more than nine numbers"),
+    (Rules::LatchStartLetThrough, "a latch line may have a third number under a header of five too"),
     // Ranges, and what stands in earlier lines.
     (Rules::SumNotTested, "I + L + A may be over M"),
     (Rules::OutputsInTheSum, "I + L + O + A is at most M"),
@@ -28,7 +29,7 @@ pub const CIRCUIT_MUTANTS: &[(Rules, &str)] = &[
     (Rules::PositionTwiceLetThrough, "a position may be named twice"),
     (Rules::PositionsByDigits, "positions written with more or fewer zeros are not the same"),
     (Rules::PositionsShared, "a position may be named once, whatever the letter"),
-    (Rules::LettersInOrder, "symbol lines stand in the order i, l, o"),
+    (Rules::LettersInOrder, "symbol lines stand in the order i, l, o, b, c, j, f"),
     (Rules::NameOfNoBytes, "a symbol's name may have no byte"),
     (Rules::CommentLineMaySayMore, "every line that starts with c starts the comment"),
     (Rules::CommentsAreLines, "what follows the line c is lines"),
@@ -58,13 +59,13 @@ pub const CIRCUIT_MUTANTS: &[(Rules, &str)] = &[
     (Rules::LimitsBeforeCircuit, "14 of the circuit is tested before 13"),
     (Rules::LimitsBeforeLemmas, "14 of the circuit is tested before 13 of the lemmas"),
     (Rules::SpaceBeforeLimits, "9 is tested before 14"),
-    (Rules::RefusalClearsMarks, "13 and 14 set the lent bytes to 0"),
+    (Rules::RefusalClearsMarks, "13, 14 and 15 set the lent bytes to 0"),
     // Limits.
     (Rules::LimitsThemselvesRefused, "as much as a limit is 14"),
     (Rules::NoLatchLetThrough, "no latch is not 14"),
     (Rules::MoreLatchesLetThrough, "more than 96 latches are not 14"),
     (Rules::GatesNotCounted, "only inputs are counted to 320"),
-    (Rules::NoOutputLetThrough, "no output is not 14, and Bad is the gates alone"),
+    (Rules::NoOutputLetThrough, "neither output nor bad literal is not 14, and Bad is without both"),
     (Rules::MoreOutputsLetThrough, "more outputs are not 14, and each is a clause of Bad"),
     (Rules::MoreLemmasLetThrough, "more than 128 lemmas are not 14"),
     (Rules::ClosingZeroCounted, "the closing 0 is counted to 64 literals"),
@@ -85,8 +86,8 @@ pub const CIRCUIT_MUTANTS: &[(Rules, &str)] = &[
     (Rules::LatchClausesExchanged, "a latch's clauses are (n+i -x)(-(n+i) x)"),
     (Rules::NextValueLast, "a latch's clauses are (x -(n+i))(-x n+i)"),
     (Rules::NextNegationLost, "the negation of a next literal is lost"),
-    (Rules::OutputBeforeGates, "in Bad the output stands before the gates"),
-    (Rules::BadWithoutGates, "Bad is the output alone"),
+    (Rules::OutputBeforeGates, "in Bad the output or bad literal stands before the gates"),
+    (Rules::BadWithoutGates, "Bad is without the gates"),
     (Rules::FalseDropsItsClause, "a constant false drops its clause"),
     (Rules::TrueLeavesItsClause, "a constant true leaves its clause"),
     (Rules::ConstantsExchanged, "0 is true and 1 is false"),

@@ -1,9 +1,11 @@
-//! From a circuit text and a lemma text to the problem: refusals 13 and 14 in their order, then the clauses in theirs.
+//! From a circuit text and a lemma text to the problem: refusals 13, 15 and 14 in their order, then the clauses in
+//! theirs.
 
-use crate::circuit_clauses::{build, reordered};
-use crate::circuit_gates::{wire, Wired};
+use crate::circuit_clauses::{build, clauses_with_constants, reordered};
+use crate::circuit_gates::{wire, Start, Wired};
 use crate::circuit_lemmas::{self, Lemma};
-use crate::circuit_text::{definitions, header_alone, symbols, within, CircuitText, Header, Line};
+use crate::circuit_symbols::symbols;
+use crate::circuit_text::{definitions, header_alone, within, CircuitText, Header, Line};
 use crate::file::{Problem, Refusal};
 use crate::mutants::Rules;
 use crate::number::Number;
@@ -11,21 +13,55 @@ use crate::number::Number;
 /// The most literals of a lemma: a body of 128 bytes.
 const LITERALS: usize = 64;
 const OVER: Refusal = Refusal { number: 14, place: 0 };
+const LIVENESS: u32 = 15;
 
-/// The problem that both texts give, or the first refusal: 13 of the circuit, 13 of the lemmas, 14.
+/// The problem that both texts give, or the first refusal: 13 of the circuit, 13 of the lemmas, 15, 14.
 pub fn read(circuit: &[u8], lemmas: &[u8], rules: Rules) -> Result<Problem, Refusal> {
     if let Some(refusal) = out_of_order(circuit, lemmas, rules) {
         return Err(refusal);
     }
     let (text, wired) = read_circuit(circuit, rules)?;
-    if rules.breaks(Rules::LimitsBeforeLemmas) {
-        limits(circuit, &text.header, rules)?;
+    match rules {
+        Rules::LimitsBeforeLemmas => limits(circuit, &text.header, rules)?,
+        Rules::JusticeBeforeLemmas => liveness(&text, rules)?,
+        _ => {}
     }
     let list = circuit_lemmas::read(lemmas, &text.header.latches, rules)?;
+    match rules {
+        Rules::JusticeAfterLimits => {}
+        Rules::LongBeforeJustice if !within(circuit) => return Err(OVER),
+        _ => liveness(&text, rules)?,
+    }
     limits(circuit, &text.header, rules)?;
     lemma_limits(lemmas, &list, rules)?;
-    let wired = wired.ok_or(OVER)?;
-    Ok(build(&in_order(wired, &text, rules), &list, rules))
+    let wired = in_order(wired.ok_or(OVER)?, &text, rules);
+    let problem = build(&wired, &list, rules);
+    clause_limit(&problem, &wired, rules)?;
+    if rules.breaks(Rules::JusticeAfterLimits) {
+        liveness(&text, rules)?;
+    }
+    Ok(problem)
+}
+
+/// 15 where there is justice or fairness.
+fn liveness(text: &CircuitText, rules: Rules) -> Result<(), Refusal> {
+    let [justice, fairness] = [&text.header.justice, &text.header.fairness].map(|count| !count.is_zero());
+    let mut literals = text.justice.iter().chain(&text.fairness);
+    let found = match rules {
+        Rules::JusticeLetThrough => fairness,
+        Rules::FairnessLetThrough => justice,
+        Rules::EmptyJusticeLetThrough => literals.next().is_some(),
+        _ => justice || fairness,
+    };
+    let place = match literals.next() {
+        Some(line) if rules.breaks(Rules::JusticeHasAPlace) => line.place,
+        _ => 0,
+    };
+    if found {
+        Err(Refusal { number: LIVENESS, place })
+    } else {
+        Ok(())
+    }
 }
 
 /// The lines of a circuit and, if the text is not too long to be judged in full, where its literals lead.
@@ -50,6 +86,11 @@ fn out_of_order(circuit: &[u8], lemmas: &[u8], rules: Rules) -> Option<Refusal> 
     match rules {
         Rules::LemmasBeforeCircuit => circuit_lemmas::read(lemmas, &header_alone(circuit)?.latches, rules).err(),
         Rules::LimitsBeforeCircuit => limits(circuit, &header_alone(circuit)?, rules).err(),
+        Rules::JusticeBeforeCircuit => {
+            let Header { justice, fairness, .. } = header_alone(circuit)?;
+            let none = justice.is_zero() && fairness.is_zero();
+            (!none).then_some(Refusal { number: LIVENESS, place: 0 })
+        }
         Rules::LongCircuitNotJudged if !within(circuit) => Some(OVER),
         Rules::LongLemmasNotJudged if !within(lemmas) => read_circuit(circuit, rules).err().or(Some(OVER)),
         _ => None,
@@ -58,16 +99,45 @@ fn out_of_order(circuit: &[u8], lemmas: &[u8], rules: Rules) -> Option<Refusal> 
 
 /// The limits that a circuit can exceed.
 fn limits(circuit: &[u8], header: &Header, rules: Rules) -> Result<(), Refusal> {
-    let Header { inputs, latches, outputs, gates, .. } = header;
+    let Header { inputs, latches, gates, .. } = header;
     let helpers = if rules.breaks(Rules::GatesNotCounted) { inputs.clone() } else { inputs.plus(gates) };
     let no_latch = latches.is_zero() && !rules.breaks(Rules::NoLatchLetThrough);
-    let no_output = outputs.is_zero() && !rules.breaks(Rules::NoOutputLetThrough);
-    let many_outputs = *outputs > Number::of(1) && !rules.breaks(Rules::MoreOutputsLetThrough);
     let many_latches = over(latches.count(), Problem::STATE, rules) && !rules.breaks(Rules::MoreLatchesLetThrough);
     let many_helpers = over(helpers.count(), Problem::HELPERS, rules);
     let long = over(circuit.len(), Problem::FILE_BYTES, rules);
-    let refused = no_latch || no_output || many_outputs || many_latches || many_helpers || long;
-    if refused {
+    if no_latch || !one_bad(header, rules) || many_latches || many_helpers || long {
+        Err(OVER)
+    } else {
+        Ok(())
+    }
+}
+
+/// Whether one literal says what is bad: a bad literal without any output, or a single output without a bad literal.
+fn one_bad(header: &Header, rules: Rules) -> bool {
+    let Header { outputs, bad, .. } = header;
+    let one = Number::of(1);
+    match rules {
+        Rules::NoOutputLetThrough if bad.is_zero() && outputs.is_zero() => true,
+        Rules::MoreOutputsLetThrough if bad.is_zero() && *outputs > one => true,
+        Rules::MoreBadLetThrough if outputs.is_zero() && *bad > one => true,
+        Rules::BadBesideOutputTaken if *bad == one => true,
+        Rules::OutputBesideBadTaken if *outputs == one => true,
+        Rules::BadNeedsAnOutput => *outputs == one,
+        _ => bad.plus(outputs) == one,
+    }
+}
+
+/// The clauses that are built, with the lemmas, are 4,096 at most.
+fn clause_limit(problem: &Problem, wired: &Wired, rules: Rules) -> Result<(), Refusal> {
+    let free = wired.starts.iter().filter(|&&start| start == Start::Either).count();
+    let clauses = match rules {
+        Rules::ConstantClausesCounted => clauses_with_constants(wired) + problem.k(),
+        Rules::LemmasNotCounted => problem.clauses() - problem.k(),
+        Rules::ConstraintsCountedOnce => problem.clauses() - wired.constraints.len().min(problem.bad.len()),
+        Rules::FreeStartsCounted => problem.clauses() + free,
+        _ => problem.clauses(),
+    };
+    if over(clauses, Problem::CLAUSES, rules) && !rules.breaks(Rules::MoreClausesLetThrough) {
         Err(OVER)
     } else {
         Ok(())

@@ -3,7 +3,8 @@
 use crate::random::Random;
 
 /// A circuit as its lines have it: literals of inputs, of latches with their next literal, of outputs, and of gates with
-/// their two inputs. The variables are any of 1 to `most`.
+/// their two inputs. The variables are any of 1 to `most`. What only edition 1.9 has is empty where the header has five
+/// numbers: third numbers of latch lines, bad literals, constraints, the literals of each justice set, and fairness.
 #[derive(Clone, Debug)]
 pub struct Drawn {
     pub most: usize,
@@ -12,6 +13,18 @@ pub struct Drawn {
     pub outputs: Vec<usize>,
     pub gates: Vec<[usize; 3]>,
     pub lemmas: Vec<Vec<i64>>,
+    pub numbers: usize,
+    pub starts: Vec<Option<usize>>,
+    pub bad: Vec<usize>,
+    pub constraints: Vec<usize>,
+    pub justice: Vec<Vec<usize>>,
+    pub fairness: Vec<usize>,
+}
+
+/// A line after the header: literals, or a count.
+pub enum Row {
+    Literals(Vec<usize>),
+    Count(usize),
 }
 
 /// The largest sizes of a random circuit.
@@ -60,11 +73,24 @@ pub fn circuit(random: &mut Random, sizes: CircuitSizes) -> Drawn {
         shuffle(random, &mut lines);
     }
     let lemmas = lemmas(random, latches, sizes.lemmas);
-    Drawn { most, inputs: of_inputs.to_vec(), latches: next, outputs, gates: lines, lemmas }
+    Drawn {
+        most,
+        inputs: of_inputs.to_vec(),
+        latches: next,
+        outputs,
+        gates: lines,
+        lemmas,
+        numbers: 5,
+        starts: vec![None; latches],
+        bad: vec![],
+        constraints: vec![],
+        justice: vec![],
+        fairness: vec![],
+    }
 }
 
 /// A constant, or a literal of one of these.
-fn edge(random: &mut Random, known: &[usize]) -> usize {
+pub fn edge(random: &mut Random, known: &[usize]) -> usize {
     let sign = random.below(2);
     if random.once_in(10) {
         return sign;
@@ -116,14 +142,41 @@ pub fn shuffle<T>(random: &mut Random, list: &mut [T]) {
 }
 
 impl Drawn {
+    /// The counts of the header after M.
+    pub fn counts(&self) -> Vec<usize> {
+        let older = [self.inputs.len(), self.latches.len(), self.outputs.len(), self.gates.len()];
+        let newer = [self.bad.len(), self.constraints.len(), self.justice.len(), self.fairness.len()];
+        [older, newer].concat()[..self.numbers - 1].to_vec()
+    }
+
+    /// The lines after the header, without symbols.
+    pub fn rows(&self) -> Vec<Row> {
+        let single = |literals: &[usize]| literals.iter().map(|&literal| Row::Literals(vec![literal])).collect();
+        let latch =
+            |(latch, start): (&[usize; 2], &Option<usize>)| Row::Literals(latch.iter().chain(start).copied().collect());
+        let groups: [Vec<Row>; 9] = [
+            single(&self.inputs),
+            self.latches.iter().zip(&self.starts).map(latch).collect(),
+            single(&self.outputs),
+            single(&self.bad),
+            single(&self.constraints),
+            self.justice.iter().map(|literals| Row::Count(literals.len())).collect(),
+            single(&self.justice.concat()),
+            single(&self.fairness),
+            self.gates.iter().map(|literals| Row::Literals(literals.to_vec())).collect(),
+        ];
+        groups.into_iter().flatten().collect()
+    }
+
     /// The circuit text, without symbols.
     pub fn circuit(&self) -> String {
-        let counts = [self.most, self.inputs.len(), self.latches.len(), self.outputs.len(), self.gates.len()];
-        let mut text = format!("aag {}", line(&counts));
-        text.extend(self.inputs.iter().map(|literal| line(&[*literal])));
-        text.extend(self.latches.iter().map(|literals| line(literals)));
-        text.extend(self.outputs.iter().map(|literal| line(&[*literal])));
-        text.extend(self.gates.iter().map(|literals| line(literals)));
+        let mut text = format!("aag {}", line(&[&[self.most], &self.counts()[..]].concat()));
+        for row in self.rows() {
+            text += &match row {
+                Row::Literals(literals) => line(&literals),
+                Row::Count(count) => line(&[count]),
+            };
+        }
         text
     }
 

@@ -32,3 +32,6 @@ fn split_fault(text: &[u8]) -> (Vec<u8>, Option<u64>) {
 
 /// A circuit of one input, one latch, one output and one gate, with room for a lemma about latch 1.
 pub const PLAIN: &str = "aag 3 1 1 1 1\n2\n4 6\n4\n6 2 5\n";
+
+/// The same in edition 1.9: the latch starts at itself, the output is a bad literal, and the input is constrained to 0.
+pub const NEWER: &str = "aag 3 1 1 0 1 1 1\n2\n4 6 4\n4\n3\n6 2 5\n";

@@ -4,15 +4,15 @@
 use crate::circuit_accepted::{all_accepted, Accepted};
 use crate::circuit_problem::read;
 use crate::circuit_sample::Sample;
-use crate::circuit_telling::{circuit_refusals, circuit_tellings, CIRCUIT_INDEX_HEAD};
+use crate::circuit_telling::{circuit_tellings, newer_refused, older_refused, CIRCUIT_INDEX_HEAD};
 use crate::mutants::Rules;
 use crate::stored::Stored;
 
-/// Every made file. The two real circuits beside them are given.
+/// Every made file. The three real circuits beside them are given.
 pub fn circuit_stored() -> Vec<Stored> {
     let mut files = Vec::new();
     let mut index = REFUSED_HEAD.to_string();
-    for sample in circuit_refusals() {
+    for sample in older_refused().into_iter().chain(newer_refused()) {
         index += &format!("{} {} {} {}\n", sample.name, sample.number, sample.place, sample.line);
         files.extend(pair("refusals", sample));
     }

@@ -32,7 +32,8 @@ impl Problem {
         2 * self.n + self.m
     }
 
-    fn clauses(&self) -> usize {
+    /// How many clauses there are, lemmas with the rest.
+    pub fn clauses(&self) -> usize {
         self.init.len() + self.tr.len() + self.bad.len() + self.lemmas.len()
     }
 

@@ -1,10 +1,11 @@
-//! The subset trimmer a second time, written from document 01 and requests 2026-01 and 2026-02 alone and as plainly as
-//! they are.
+//! The subset trimmer a second time, written from document 01 and requests 2026-01, 2026-02 and 2026-04 alone and as
+//! plainly as they are.
 //! The four jobs are in `jobs`, those over circuits in `circuit_jobs`, the listing program's text in `text`, the broken rules in `mutants`.
 
 pub mod bench;
 pub mod circuit;
 pub mod circuit_accepted;
+pub mod circuit_accepted_newer;
 pub mod circuit_call;
 pub mod circuit_clauses;
 pub mod circuit_compare;
@@ -12,17 +13,24 @@ pub mod circuit_damage;
 pub mod circuit_dress;
 pub mod circuit_faults;
 pub mod circuit_faults_late;
+pub mod circuit_faults_newer;
 pub mod circuit_gates;
 pub mod circuit_jobs;
 pub mod circuit_lemmas;
 pub mod circuit_limits;
+pub mod circuit_limits_newer;
 pub mod circuit_mutants;
+pub mod circuit_mutants_newer;
 pub mod circuit_problem;
 pub mod circuit_random;
+pub mod circuit_random_newer;
+pub mod circuit_refused_newer;
 pub mod circuit_sample;
 pub mod circuit_shrink;
+pub mod circuit_sorts;
 pub mod circuit_source;
 pub mod circuit_stored;
+pub mod circuit_symbols;
 pub mod circuit_telling;
 pub mod circuit_text;
 pub mod compare;

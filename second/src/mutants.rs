@@ -1,7 +1,8 @@
-//! The rules a call goes by: the true ones of document 01 and requests 2026-01 and 2026-02, or a mutant that breaks
-//! just one of them.
+//! The rules a call goes by: the true ones of document 01 and requests 2026-01, 2026-02 and 2026-04, or a mutant that
+//! breaks just one of them.
 
 use crate::circuit_mutants::CIRCUIT_MUTANTS;
+use crate::circuit_mutants_newer::NEWER_MUTANTS;
 
 /// The true rules, or the one rule that is broken. Every part is handed this value and asks it
 /// at the place where its own rule stands.
@@ -163,10 +164,81 @@ pub enum Rules {
     FalseDropsItsClause,
     TrueLeavesItsClause,
     ConstantsExchanged,
+    // Edition 1.9: header and latch lines.
+    NewerHeaderRefused,
+    ShorterHeaderRefused,
+    BadInTheSum,
+    StartNeeded,
+    StartAtAnyLiteral,
+    StartAtOwnNegation,
+    StartAtItselfRefused,
+    // Edition 1.9: the other sections.
+    BadBeforeOutputs,
+    ConstraintsBeforeBadLines,
+    FairnessBeforeJustice,
+    NewerSectionsAfterGates,
+    JusticeLiteralsLeftOut,
+    LastJusticeCountOnly,
+    JusticeLiteralsAfterEachCount,
+    JusticeCountsInRange,
+    // Edition 1.9: symbols and comment.
+    NewerSymbolsRefused,
+    ConstraintSymbolsRefused,
+    BadSymbolsByOutputs,
+    JusticeSymbolsByLiterals,
+    ConstraintSymbolIsComment,
+    CommentRefusedBesideConstraints,
+    // Edition 1.9: what is known when all lines are.
+    UndefinedBadIsFalse,
+    UndefinedConstraintIsFalse,
+    UndefinedJusticeLetThrough,
+    UndefinedFairnessLetThrough,
+    UndefinedInGatesFirst,
+    BadAtFaultForItsGate,
+    // Edition 1.9: the order of refusals, and what is 15.
+    JusticeBeforeCircuit,
+    JusticeBeforeLemmas,
+    JusticeAfterLimits,
+    LongBeforeJustice,
+    SpaceBeforeJustice,
+    JusticeHasAPlace,
+    JusticeLetThrough,
+    FairnessLetThrough,
+    EmptyJusticeLetThrough,
+    // Edition 1.9: limits.
+    MoreBadLetThrough,
+    BadBesideOutputTaken,
+    OutputBesideBadTaken,
+    BadNeedsAnOutput,
+    MoreClausesLetThrough,
+    ConstantClausesCounted,
+    LemmasNotCounted,
+    ConstraintsCountedOnce,
+    FreeStartsCounted,
+    // Edition 1.9: the problem.
+    MissingStartIsFree,
+    StartOneIsZero,
+    StartOneIsFree,
+    StartAtItselfIsZero,
+    StartAtItselfIsOne,
+    FreeStartHasAClause,
+    ConstraintInInit,
+    ConstraintMissingInTr,
+    ConstraintOnNextState,
+    ConstraintsBeforeLatches,
+    BadLiteralMustHold,
+    ConstraintMissingInBad,
+    ConstraintsBeforeBad,
+    ConstraintNegationLost,
+    ConstraintsReversed,
+    ConstraintsAsOneClause,
+    FirstConstraintOnly,
+    EqualConstraintsOnce,
+    FalseConstraintDropped,
 }
 
 /// Each mutant of the jobs over files with what it does instead of the rule; those of circuits are in
-/// `circuit_mutants`.
+/// `circuit_mutants` and `circuit_mutants_newer`.
 pub const MUTANTS: [(Rules, &str); 62] = [
     (Rules::SecondTryFree, "the second try of a decision is not counted"),
     (Rules::LastOpenClause, "a decision takes the last clause without a true literal"),
@@ -272,7 +344,8 @@ impl Rules {
 
     /// The mutant with this name.
     pub fn named(name: &str) -> Option<Rules> {
-        MUTANTS.iter().chain(CIRCUIT_MUTANTS).map(|&(rules, _)| rules).find(|rules| rules.name() == name)
+        let all = MUTANTS.iter().chain(CIRCUIT_MUTANTS).chain(NEWER_MUTANTS);
+        all.map(|&(rules, _)| rules).find(|rules| rules.name() == name)
     }
 
     /// Whether some call tells this mutant apart from the true rules.

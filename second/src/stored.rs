@@ -17,7 +17,7 @@ pub struct Stored {
     pub bytes: Vec<u8>,
 }
 
-/// Every made file. The two real files and the two real circuits beside them are given.
+/// Every made file. The two real files and the three real circuits beside them are given.
 pub fn stored() -> Vec<Stored> {
     let mut files = problems();
     files.extend(refused());

@@ -3,6 +3,7 @@
 use second::circuit_call::CircuitCall;
 use second::circuit_jobs::CircuitJob;
 use second::circuit_mutants::CIRCUIT_MUTANTS;
+use second::circuit_mutants_newer::NEWER_MUTANTS;
 use second::mutants::Rules;
 use second::subject::Second;
 use second::telling::answer_line;
@@ -11,6 +12,11 @@ use std::path::PathBuf;
 
 fn cases() -> PathBuf {
     PathBuf::from(env!("CARGO_MANIFEST_DIR")).join("../cases")
+}
+
+/// Every mutant of the rules of circuits, of both editions.
+fn mutants() -> Vec<(Rules, &'static str)> {
+    [CIRCUIT_MUTANTS, NEWER_MUTANTS].concat()
 }
 
 /// A line of the index: the mutant, the call, and the stored answer of the true rules.
@@ -34,11 +40,11 @@ fn line(line: &str) -> (Rules, CircuitCall, String) {
 #[test]
 fn every_mutant_is_told_by_its_stored_pair() {
     let lines = lines();
-    for &(mutant, _) in CIRCUIT_MUTANTS {
+    for (mutant, _) in mutants() {
         let (_, call, _) = lines.iter().find(|line| line.0 == mutant).expect("the mutant has a line");
         assert!(call.differs(&Second(Rules::TRUE), &Second(mutant)), "{}", mutant.name());
     }
-    assert_eq!(lines.len(), CIRCUIT_MUTANTS.len());
+    assert_eq!(lines.len(), mutants().len());
 }
 
 #[test]
@@ -52,7 +58,7 @@ fn the_true_rules_give_the_stored_answers() {
 #[test]
 fn the_readme_names_every_mutant() {
     let readme = include_str!("../README.md");
-    for (mutant, line) in CIRCUIT_MUTANTS {
+    for (mutant, line) in mutants() {
         assert!(readme.contains(&format!("`{}`: {line}", mutant.name())), "{}", mutant.name());
     }
 }

@@ -12,6 +12,8 @@ use std::fs;
 use std::path::PathBuf;
 
 const UNTOUCHED: u8 = 0xA5;
+/// The longest file of a problem that a circuit gives.
+const MOST_BYTES: usize = 46_220;
 
 fn circuits() -> PathBuf {
     PathBuf::from(env!("CARGO_MANIFEST_DIR")).join("../cases/circuits")
@@ -31,7 +33,7 @@ fn index(folder: &str) -> Vec<String> {
 #[test]
 fn refused_pairs_are_refused_by_every_job_as_stored() {
     let lines = index("refusals");
-    let mut seen = [0; 2];
+    let mut seen = [0; 3];
     for line in &lines {
         let words: Vec<&str> = line.split(' ').collect();
         let [circuit, lemmas] = pair(&format!("refusals/{}", words[0]));
@@ -47,7 +49,7 @@ fn refused_pairs_are_refused_by_every_job_as_stored() {
             }
         }
     }
-    assert!(seen[0] >= 100 && seen[1] >= 15, "{seen:?}");
+    assert!(seen[0] >= 180 && seen[1] >= 30 && seen[2] >= 15, "{seen:?}");
 }
 
 #[test]
@@ -68,7 +70,7 @@ fn pairs_that_are_read_give_the_problem_written_down() {
 
 /// The job that writes the problem's file writes it whole into the first bytes, or refuses by 12 and writes nothing.
 fn written(name: &str, texts: [&[u8]; 2], file: &[u8], sizes: Report) {
-    assert!(file.len() <= 35_666, "{name}");
+    assert!(file.len() <= MOST_BYTES, "{name}");
     assert!(file::read(file, Rules::TRUE).is_ok(), "{name}");
     let mut lent = vec![UNTOUCHED; file.len() + 1];
     let told = Report { rows: file.len() as u64, ..sizes };
@@ -78,6 +80,14 @@ fn written(name: &str, texts: [&[u8]; 2], file: &[u8], sizes: Report) {
     let refusal = Report { number: 12, ..Report::default() };
     assert_eq!(call(CircuitJob::Problem, texts, 0, &mut short, Rules::TRUE), refusal, "{name}");
     assert!(short.iter().all(|&byte| byte == UNTOUCHED), "{name}");
+}
+
+#[test]
+fn the_longest_file_is_reached_with_all_clauses_there_may_be() {
+    let [circuit, lemmas] = pair("read/newer-most");
+    let built = read(&circuit, &lemmas, Rules::TRUE).expect("it is read");
+    assert_eq!((built.n, built.m, built.k(), built.clauses()), (96, 320, 128, 4_096));
+    assert_eq!(built.to_bytes().len(), MOST_BYTES);
 }
 
 #[test]
@@ -94,8 +104,14 @@ fn every_stored_text_has_its_line() {
 
 #[test]
 fn every_cut_of_a_circuit_is_refused_at_the_line_that_is_cut_or_missing() {
-    let [circuit, _] = pair("read/orders");
-    let whole = [&circuit[..], b"l0 a\ni1 b\nc\nd"].concat();
+    cut_everywhere("read/orders", b"l0 a\ni1 b\nc\nd");
+    cut_everywhere("read/newer-orders", b"c1 a\nb0 b\nl0 c\nc\nc1");
+}
+
+/// The pair has two latches; what is put after its gates are symbols and a comment.
+fn cut_everywhere(name: &str, more: &[u8]) {
+    let [circuit, _] = pair(name);
+    let whole = [&circuit[..], more].concat();
     let ends: Vec<usize> = (0..whole.len()).filter(|&at| whole[at] == b'\n').map(|at| at + 1).collect();
     let lines = circuit.iter().filter(|&&byte| byte == b'\n').count();
     for length in 0..=whole.len() {

@@ -51,11 +51,16 @@ fn the_comparison_prints_its_seed_its_calls_and_what_it_found() {
 
 #[test]
 fn the_comparison_over_circuits_prints_the_same_and_what_its_texts_were() {
-    let output = Command::new(env!("CARGO_BIN_EXE_compare_circuits")).args(["2000", "9"]).output();
+    // With no library it compares with itself and with one mutant.
+    let mut alone = Command::new(env!("CARGO_BIN_EXE_compare_circuits"));
+    let output = alone.args(["2000", "9"]).env_remove("TRIM_DRIVER").output();
     let output = output.expect("the program runs");
     let text = String::from_utf8(output.stdout).expect("its text");
     assert!(output.status.success(), "{text}");
     assert!(text.starts_with("seed 9\n"), "{text}");
     assert!(text.contains(" calls;") && text.contains("no difference"), "{text}");
     assert!(text.contains("; texts: whole ") && text.contains("; read: check "), "{text}");
+    assert!(text.contains("; edition 2007\n") && text.contains("; edition 1.9: headers 2"), "{text}");
+    assert_eq!(text.matches("no difference").count(), 2, "{text}");
+    assert!(text.contains("the mutant constraint-missing-in-bad: number"), "{text}");
 }

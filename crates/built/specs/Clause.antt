@@ -3,7 +3,7 @@ use Prim.Native.Nat.{ℕ, _+_, _≤_, _<_}
 use native.Mathlib.Omega.{arith}
 use native.Mathlib.Nat.{add-assoc}
 use mathlib.Core.Path.{_≡_, refl, sym, ap, _∙_}
-use mathlib.Core.Bool.{Bool, true, false, true≢false}
+use mathlib.Core.Bool.{true, false, true≢false}
 use mathlib.Core.List.{List, [], _∷_, _++_, map, append-nil, append-assoc}
 use lib.ListN.{length, length-append}
 use borrow.Author.Tests.{eq-eqb, ne-eqb}
@@ -11,15 +11,11 @@ use Rattle.meaning.specs.Clauses.{Literal, pos, neg, Clause, any}
 use Rattle.meaning.specs.Built as Built
 use Rattle.meaning.specs.Built.{constant, named, literal-if, clause-if}
 use Rattle.meaning.specs.Filed.{two, literal-bytes, clause-bytes, record-bytes, clause-records}
+use Rattle.clause_count.specs.Lengths.{is-true}
 use Rattle.built.specs.declared.edge.Edge.{Edge}
 use Rattle.records.specs.Put.{put}
 use Rattle.built.specs.Edges.{edge-of}
 use Rattle.built.specs.Wrote.{Wrote, Writing, writing-all, rest-as, part-room, part-left}
-
--- it is constantly true
-unfoldable pub is-true : Built.Edge → Bool
-is-true (constant b) = b
-is-true (named l) = false
 
 -- the bytes of its literal, if it has one
 unfoldable pub edge-bytes : Built.Edge → List ℕ

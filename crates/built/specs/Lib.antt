@@ -1,7 +1,6 @@
 -- What is said of a built problem as the code writes it, and the laws that tie it to the definition.
 pub mod Wrote
 pub mod Edges
-pub mod Rows
 pub mod Turns
 pub mod Clause
 pub mod Sections

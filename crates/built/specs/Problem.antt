@@ -2,28 +2,26 @@
 use Prim.Native.Nat.{ℕ, _+_, _≤_}
 use native.Mathlib.Omega.{arith}
 use native.Mathlib.Nat.{zero-add}
-use mathlib.Core.Path.{_≡_, refl, sym, ap, ap₂, subst, _∙_}
-use mathlib.Core.List.{List, [], _∷_, _++_, map, append-assoc}
-use lib.ListN.{length, getD}
+use mathlib.Core.Path.{_≡_, refl, sym, ap, ap₂, _∙_}
+use mathlib.Core.List.{List, [], _∷_, _++_, append-assoc}
+use lib.ListN.{length}
 use Rattle.meaning.specs.Clauses.{Clause}
 use Rattle.meaning.specs.Meaning.{Problem}
 use Rattle.meaning.specs.Circuit as Meant
-use Rattle.meaning.specs.Circuit.{output}
-use Rattle.meaning.specs.Built.{Edge, n-of, helpers, edge, clause-if, gates-clauses, latches-clauses, zero-clauses, built}
-use Rattle.meaning.specs.CircuitText.{numbers-at, at-number, circuit-of}
+use Rattle.meaning.specs.Circuit.{bad-literal}
+use Rattle.meaning.specs.Built.{n-of, helpers, gates-clauses, latches-clauses, start-clauses, one-clauses, built}
 use Rattle.meaning.specs.LemmaText.{read-lemma-text}
 use Rattle.meaning.specs.Filed.{two, record-bytes, clause-records, file-of}
 use Rattle.circuit_laws.specs.Numbers.{helper-count}
 use Rattle.records.specs.Put.{put}
 use Rattle.lemma_text.specs.Rest.{lemmas-of}
+use Rattle.sections.specs.declared.find.Lines.{Lines}
 use Rattle.sections.specs.declared.circuit.Circuit.{Circuit}
-use Rattle.sections.specs.Lists.{first-lines}
-use Rattle.sections.specs.SectionLines.{Rows}
-use Rattle.sections.specs.Whole.{Whole, circuit-at, sections-of, lines-of, latch-count, input-count, gate-count}
-use Rattle.built.specs.Rows.{Row}
-use Rattle.built.specs.Turns.{parts}
-use Rattle.built.specs.Sections.{zero-part, records-append, zeros-from}
-use Rattle.built.specs.Wrote.{Wrote, Writing, writing-all, rest-as, part-room, part-left, rest-room, last-part, Three, three-all, Two}
+use Rattle.sections.specs.Whole.{circuit-at, latch-count, input-count, gate-count}
+use Rattle.clause_count.specs.Bad.{OneBad, literals-of, bad-lines, bad-is}
+use Rattle.clause_count.specs.Tally.{ones-append, constraints-are}
+use Rattle.built.specs.Sections.{records-append}
+use Rattle.built.specs.Wrote.{Wrote, Writing, writing-all, rest-as, part-room, part-left, rest-room, last-part, Three, three-all}
 
 -- the problem that is built from a circuit as it stands in its text, and from a lemma text over its latches
 abbrev pub problem-of : List ℕ → Circuit → List ℕ → Problem
@@ -31,20 +29,51 @@ problem-of text c lemmas = built (circuit-at text c) (lemmas-of (read-lemma-text
 
 -- its records of Tr, and of Bad
 unfoldable pub tr-records : Meant.Circuit → List ℕ
-tr-records c = clause-records 3 (gates-clauses c (c .gates) ++ latches-clauses c 1 (c .latches))
+tr-records c = clause-records 3 (gates-clauses c (c .gates) ++ (latches-clauses c 1 (c .latches) ++ one-clauses c (c .constraints)))
 
 unfoldable pub bad-records : Meant.Circuit → List ℕ
-bad-records c = clause-records 4 (gates-clauses c (c .gates) ++ clause-if (edge c (output c) ∷ []))
+bad-records c = clause-records 4 (gates-clauses c (c .gates) ++ one-clauses c (bad-literal c ∷ c .constraints))
 
-pub tr-split : (c : Meant.Circuit)
-    → Two (tr-records c) (clause-records 3 (gates-clauses c (c .gates))) (clause-records 3 (latches-clauses c 1 (c .latches)))
-unfolding tr-records
-tr-split c = record { is = records-append 3 (gates-clauses c (c .gates)) (latches-clauses c 1 (c .latches)) }
+-- three lists of clauses, one behind another
+three-records : (kind : ℕ) (as′ bs cs : List Clause)
+    → clause-records kind (as′ ++ (bs ++ cs)) ≡ clause-records kind as′ ++ (clause-records kind bs ++ clause-records kind cs)
+three-records kind as′ bs cs =
+    records-append kind as′ (bs ++ cs) ∙ ap (λ (l : List ℕ). clause-records kind as′ ++ l) (records-append kind bs cs)
 
-pub bad-split : (c : Meant.Circuit)
-    → Two (bad-records c) (clause-records 4 (gates-clauses c (c .gates))) (clause-records 4 (clause-if (edge c (output c) ∷ [])))
-unfolding bad-records
-bad-split c = record { is = records-append 4 (gates-clauses c (c .gates)) (clause-if (edge c (output c) ∷ [])) }
+module _ (text : List ℕ) (c : Circuit) where
+  abbrev C : Meant.Circuit
+  C = circuit-at text c
+
+  -- the literals of the constraints
+  abbrev constraints : List ℕ
+  constraints = literals-of text (c .properties .constraints)
+
+  pub tr-split : Three (tr-records C) (clause-records 3 (gates-clauses C (C .gates)))
+      (clause-records 3 (latches-clauses C 1 (C .latches))) (clause-records 3 (one-clauses C constraints))
+  unfolding tr-records
+  tr-split =
+      record {
+        is =
+            three-records 3 (gates-clauses C (C .gates)) (latches-clauses C 1 (C .latches)) (one-clauses C (C .constraints))
+            ∙ ap
+            (λ (ls : List ℕ). clause-records 3 (gates-clauses C (C .gates))
+            ++ (clause-records 3 (latches-clauses C 1 (C .latches)) ++ clause-records 3 (one-clauses C ls)))
+            (constraints-are text c);
+      }
+
+  pub bad-split : OneBad (c .properties) → (s : Lines) → s ≡ bad-lines (c .properties)
+      → Three (bad-records C) (clause-records 4 (gates-clauses C (C .gates)))
+      (clause-records 4 (one-clauses C (literals-of text s))) (clause-records 4 (one-clauses C constraints))
+  unfolding bad-records
+  bad-split one s is =
+      let bad = literals-of text s in
+      record {
+        is =
+            ap (λ (ls : List ℕ). clause-records 4 (gates-clauses C (C .gates) ++ one-clauses C (ls ++ C .constraints))) (sym (ap (literals-of text) is ∙ bad-is text c one))
+            ∙ ap (λ (ls : List ℕ). clause-records 4 (gates-clauses C (C .gates) ++ one-clauses C (bad ++ ls))) (constraints-are text c)
+            ∙ ap (λ (cs : List Clause). clause-records 4 (gates-clauses C (C .gates) ++ cs)) (ones-append C bad constraints)
+            ∙ three-records 4 (gates-clauses C (C .gates)) (one-clauses C bad) (one-clauses C constraints);
+      }
 
 -- ---- the first record, and the last
 
@@ -71,22 +100,6 @@ pub end-written : (at : ℕ) (out₀ out : List ℕ) → out ≡ put at (two 0 +
 unfolding record-bytes two
 end-written at out₀ out p = record { end = refl; made = p }
 
--- ---- the output
-
-module _ (text : List ℕ) (c : Circuit) (one : c .outputs .count ≡ 1) where
-  pub output-row : Whole text c → Row text 1 (c .outputs .at)
-  output-row w =
-      let r : Rows text 1 (c .outputs .at) 1 = subst (Rows text 1 (c .outputs .at)) one (w .outputs .rows) in
-      record { inside = w .outputs .inside; is-ended = r .0; numbers = r .1 }
-
-  output-is : getD (numbers-at text (c .outputs .at)) 0 0 ≡ output (circuit-at text c)
-  unfolding output circuit-at circuit-of sections-of lines-of first-lines at-number
-  output-is = sym (ap (λ (k : ℕ). getD (map (at-number 0) (first-lines text (c .outputs .at) k)) 0 0) one)
-
-  pub output-as : (e : Edge) → e ≡ edge (circuit-at text c) (getD (numbers-at text (c .outputs .at)) 0 0)
-      → clause-records 4 (clause-if (e ∷ [])) ≡ clause-records 4 (clause-if (edge (circuit-at text c) (output (circuit-at text c)) ∷ []))
-  output-as e is = ap (λ (d : Edge). clause-records 4 (clause-if (d ∷ []))) (is ∙ ap (edge (circuit-at text c)) output-is)
-
 -- ---- the whole file
 
 regroup : (a b c d e f : List ℕ) → a ++ b ++ c ++ d ++ e ++ f ≡ a ++ (b ++ (c ++ (d ++ (e ++ f))))
@@ -96,8 +109,8 @@ module _ (text : List ℕ) (c : Circuit) (lemmas : List Clause) where
   abbrev first : List ℕ
   first = record-bytes 1 (two (c .latches .count) ++ two (c .inputs .count + c .gates .count))
 
-  abbrev zeros : List ℕ
-  zeros = parts zero-part 0 (c .latches .count)
+  abbrev starts : List ℕ
+  starts = clause-records 2 (start-clauses 1 (circuit-at text c .latches))
 
   abbrev tr : List ℕ
   tr = tr-records (circuit-at text c)
@@ -111,43 +124,41 @@ module _ (text : List ℕ) (c : Circuit) (lemmas : List Clause) where
   abbrev end : List ℕ
   end = record-bytes 6 []
 
-  file-cut : file-of (built (circuit-at text c) lemmas) ≡ first ++ (zeros ++ (tr ++ (bad ++ (lemma ++ end))))
+  file-cut : file-of (built (circuit-at text c) lemmas) ≡ first ++ (starts ++ (tr ++ (bad ++ (lemma ++ end))))
   unfolding file-of built n-of tr-records bad-records
   file-cut =
       let n-is = latch-count text c in
       let m-is : length (helpers (circuit-at text c)) ≡ c .inputs .count + c .gates .count =
       helper-count (circuit-at text c) ∙ ap₂ _+_ (input-count text c) (gate-count text c) in
-      let zeros-are : clause-records 2 (zero-clauses 1 (circuit-at text c .latches)) ≡ zeros =
-      zeros-from 0 (circuit-at text c .latches) ∙ ap (parts zero-part 0) n-is in
-      rw (n-is, m-is, zeros-are) (regroup first zeros tr bad lemma end)
+      rw (n-is, m-is) (regroup first starts tr bad lemma end)
 
   module _ (out₀ : List ℕ) (room : length (file-of (built (circuit-at text c) lemmas)) ≤ length out₀) where
     abbrev Rest : List ℕ → ℕ → List ℕ → Type 0
     Rest rest to out = Writing (file-of (built (circuit-at text c) lemmas)) 0 out₀ rest to out
 
-    start : Rest (first ++ (zeros ++ (tr ++ (bad ++ (lemma ++ end))))) 0 out₀
+    start : Rest (first ++ (starts ++ (tr ++ (bad ++ (lemma ++ end))))) 0 out₀
     start = rest-as file-cut (writing-all (file-of (built (circuit-at text c) lemmas)) 0 out₀ (omega arith))
 
     pub first-room : 0 + length first ≤ length out₀
-    first-room = part-room first (zeros ++ (tr ++ (bad ++ (lemma ++ end)))) start
+    first-room = part-room first (starts ++ (tr ++ (bad ++ (lemma ++ end)))) start
 
     module _ {to₁ : ℕ} {out₁ : List ℕ} (w₁ : Wrote first 0 out₀ to₁ out₁) where
-      after-first : Rest (zeros ++ (tr ++ (bad ++ (lemma ++ end)))) to₁ out₁
-      after-first = part-left first (zeros ++ (tr ++ (bad ++ (lemma ++ end)))) start w₁
+      after-first : Rest (starts ++ (tr ++ (bad ++ (lemma ++ end)))) to₁ out₁
+      after-first = part-left first (starts ++ (tr ++ (bad ++ (lemma ++ end)))) start w₁
 
-      pub zeros-room : to₁ + length zeros ≤ length out₁
-      zeros-room = part-room zeros (tr ++ (bad ++ (lemma ++ end))) after-first
+      pub starts-room : to₁ + length starts ≤ length out₁
+      starts-room = part-room starts (tr ++ (bad ++ (lemma ++ end))) after-first
 
-      module _ {to₂ : ℕ} {out₂ : List ℕ} (w₂ : Wrote zeros to₁ out₁ to₂ out₂) where
-        after-zeros : Rest (tr ++ (bad ++ (lemma ++ end))) to₂ out₂
-        after-zeros = part-left zeros (tr ++ (bad ++ (lemma ++ end))) after-first w₂
+      module _ {to₂ : ℕ} {out₂ : List ℕ} (w₂ : Wrote starts to₁ out₁ to₂ out₂) where
+        after-starts : Rest (tr ++ (bad ++ (lemma ++ end))) to₂ out₂
+        after-starts = part-left starts (tr ++ (bad ++ (lemma ++ end))) after-first w₂
 
         pub tr-room : to₂ + length tr ≤ length out₂
-        tr-room = part-room tr (bad ++ (lemma ++ end)) after-zeros
+        tr-room = part-room tr (bad ++ (lemma ++ end)) after-starts
 
         module _ {to₃ : ℕ} {out₃ : List ℕ} (w₃ : Wrote tr to₂ out₂ to₃ out₃) where
           after-tr : Rest (bad ++ (lemma ++ end)) to₃ out₃
-          after-tr = part-left tr (bad ++ (lemma ++ end)) after-zeros w₃
+          after-tr = part-left tr (bad ++ (lemma ++ end)) after-starts w₃
 
           pub bad-room : to₃ + length bad ≤ length out₃
           bad-room = part-room bad (lemma ++ end) after-tr

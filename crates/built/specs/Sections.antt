@@ -1,42 +1,53 @@
--- The clauses of the latches and of the gates, line by line.
+-- The clauses of latches, gates and literals that are to be 1, line by line.
 use Prim.Native.Nat.{ℕ, zero, suc, _+_, _≤_}
 use native.Mathlib.Omega.{arith}
 use mathlib.Core.Path.{_≡_, refl, sym, ap, _∙_}
 use mathlib.Core.Bool.{true, false}
 use mathlib.Core.List.{List, [], _∷_, _++_, map, append-assoc}
-use lib.ListN.{length, getD}
+use lib.ListN.{getD}
+use lib.Dec.{eqb}
 use Rattle.meaning.specs.Clauses.{pos, neg, Clause}
 use Rattle.meaning.specs.Circuit as Meant
-use Rattle.meaning.specs.Circuit.{Latch}
+use Rattle.meaning.specs.Circuit.{Start, at-0, at-1, at-either}
 use Rattle.meaning.specs.Built as Built
-use Rattle.meaning.specs.Built.{named, n-of, edge, opposite, literal-if, clause-if, and-clauses, gates-clauses, next-clauses, latches-clauses, zero-clauses}
-use Rattle.meaning.specs.CircuitText.{numbers-at, at-number, latch-of, gate-of, circuit-of}
+use Rattle.meaning.specs.Built.{named, n-of, edge, opposite, literal-if, clause-if, and-clauses, gates-clauses, next-clauses, latches-clauses, start-clause, start-clauses, one-clauses}
+use Rattle.meaning.specs.CircuitText.{Line, numbers-at, at-number, start-of, latch-of, gate-of, circuit-of}
 use Rattle.meaning.specs.Filed.{clause-records, record-bytes, clause-bytes}
+use Rattle.sections.specs.declared.find.Lines.{Lines}
 use Rattle.sections.specs.declared.circuit.Circuit.{Circuit}
 use Rattle.sections.specs.Lists.{first-lines, line-after, after-more}
 use Rattle.sections.specs.Whole.{circuit-at, sections-of, lines-of, latch-count}
-use Rattle.built.specs.declared.edge.Edge.{Edge}
+use Rattle.clause_count.specs.Start.{start-code, start-in}
+use Rattle.clause_count.specs.Bad.{literals-of}
 use Rattle.built.specs.Edges.{edge-of}
 use Rattle.built.specs.Turns.{parts}
 use Rattle.built.specs.Clause.{named-is}
 use Rattle.built.specs.Wrote.{Three, Two}
 
--- the clauses of the gate whose line has these numbers
+-- ---- the clauses of line i, counted from 0, by its numbers
+
+-- of a gate
 unfoldable pub gate-clauses : Meant.Circuit → List ℕ → List Clause
 gate-clauses c ns = and-clauses (edge c (getD ns 0 0)) (edge c (getD ns 1 0)) (edge c (getD ns 2 0))
 
--- the records of gate i, counted from 0
-unfoldable pub gate-part : ℕ → Meant.Circuit → List ℕ → ℕ → ℕ → List ℕ
-gate-part kind c text at i = clause-records kind (gate-clauses c (numbers-at text (line-after text at i)))
+abbrev pub gate-line : Meant.Circuit → ℕ → List ℕ → List Clause
+gate-line c i ns = gate-clauses c ns
 
--- those of latch i
-unfoldable pub latch-part : Meant.Circuit → List ℕ → ℕ → ℕ → List ℕ
-latch-part c text at i =
-    clause-records 3 (next-clauses (n-of c + suc i) (edge c (getD (numbers-at text (line-after text at i)) 1 0)))
+-- of a latch's next value
+abbrev pub latch-line : Meant.Circuit → ℕ → List ℕ → List Clause
+latch-line c i ns = next-clauses (n-of c + suc i) (edge c (getD ns 1 0))
 
--- that it starts at 0
-unfoldable pub zero-part : ℕ → List ℕ
-zero-part i = clause-records 2 ((neg (suc i) ∷ []) ∷ [])
+-- of a latch's start
+abbrev pub start-line : ℕ → List ℕ → List Clause
+start-line i ns = start-clause (suc i) (start-of (getD ns 2 0))
+
+-- of a literal that is to be 1
+abbrev pub one-line : Meant.Circuit → ℕ → List ℕ → List Clause
+one-line c i ns = clause-if (edge c (getD ns 0 0) ∷ [])
+
+-- the records of line i
+unfoldable pub line-part : ℕ → (ℕ → List ℕ → List Clause) → List ℕ → ℕ → ℕ → List ℕ
+line-part kind clauses text at i = clause-records kind (clauses i (numbers-at text (line-after text at i)))
 
 -- ---- the clauses of a section are those of its lines
 
@@ -48,47 +59,79 @@ records-append kind (a ∷ as′) bs =
     ap (λ (l : List ℕ). record-bytes kind (clause-bytes a) ++ l) (records-append kind as′ bs)
     ∙ sym (append-assoc (record-bytes kind (clause-bytes a)) (clause-records kind as′) (clause-records kind bs))
 
-module _ (c : Meant.Circuit) (text : List ℕ) (at : ℕ) where
-  gates-from : (kind i k : ℕ)
-      → clause-records kind (gates-clauses c (map gate-of (first-lines text (line-after text at i) k)))
-      ≡ parts (gate-part kind c text at) i k
-  unfolding parts gate-part gate-clauses gates-clauses first-lines gate-of at-number clause-records
-  gates-from kind i zero = refl
-  gates-from kind i (suc k) =
-      records-append kind (gate-clauses c (numbers-at text (line-after text at i))) _
-      ∙ ap (λ (l : List ℕ). gate-part kind c text at i ++ l)
-      (ap (λ (p : ℕ). clause-records kind (gates-clauses c (map gate-of (first-lines text p k)))) (sym (after-more text at i))
-      ∙ gates-from kind (suc i) k)
+-- those of lines from line i on
+unfoldable clauses-from : (ℕ → List ℕ → List Clause) → ℕ → List Line → List Clause
+clauses-from clauses i [] = []
+clauses-from clauses i (l ∷ ls) = clauses i (l .numbers) ++ clauses-from clauses (suc i) ls
 
-  latches-from : (i k : ℕ)
-      → clause-records 3 (latches-clauses c (suc i) (map latch-of (first-lines text (line-after text at i) k)))
-      ≡ parts (latch-part c text at) i k
-  unfolding parts latch-part latches-clauses first-lines latch-of at-number clause-records
-  latches-from i zero = refl
-  latches-from i (suc k) =
-      records-append 3 (next-clauses (n-of c + suc i) (edge c (getD (numbers-at text (line-after text at i)) 1 0))) _
-      ∙ ap (λ (l : List ℕ). latch-part c text at i ++ l)
-      (ap (λ (p : ℕ). clause-records 3 (latches-clauses c (suc (suc i)) (map latch-of (first-lines text p k)))) (sym (after-more text at i))
-      ∙ latches-from (suc i) k)
+parts-from : (kind : ℕ) (clauses : ℕ → List ℕ → List Clause) (text : List ℕ) (at i k : ℕ)
+    → clause-records kind (clauses-from clauses i (first-lines text (line-after text at i) k))
+    ≡ parts (line-part kind clauses text at) i k
+unfolding parts line-part clauses-from first-lines clause-records
+parts-from kind clauses text at i zero = refl
+parts-from kind clauses text at i (suc k) =
+    records-append kind (clauses i (numbers-at text (line-after text at i))) _
+    ∙ ap (λ (l : List ℕ). line-part kind clauses text at i ++ l)
+    (ap (λ (p : ℕ). clause-records kind (clauses-from clauses (suc i) (first-lines text p k))) (sym (after-more text at i))
+    ∙ parts-from kind clauses text at (suc i) k)
 
-pub zeros-from : (i : ℕ) (qs : List Latch) → clause-records 2 (zero-clauses (suc i) qs) ≡ parts zero-part i (length qs)
-unfolding parts zero-part zero-clauses clause-records
-zeros-from i [] = refl
-zeros-from i (q ∷ qs) =
-    records-append 2 ((neg (suc i) ∷ []) ∷ []) (zero-clauses (suc (suc i)) qs)
-    ∙ ap (λ (l : List ℕ). zero-part i ++ l) (zeros-from (suc i) qs)
+module _ (c : Meant.Circuit) where
+  gates-from : (i : ℕ) (ls : List Line) → gates-clauses c (map gate-of ls) ≡ clauses-from (gate-line c) i ls
+  unfolding gates-clauses gate-clauses clauses-from gate-of at-number
+  gates-from i [] = refl
+  gates-from i (l ∷ ls) = ap (λ (cs : List Clause). gate-clauses c (l .numbers) ++ cs) (gates-from (suc i) ls)
+
+  latches-from : (i : ℕ) (ls : List Line) → latches-clauses c (suc i) (map latch-of ls) ≡ clauses-from (latch-line c) i ls
+  unfolding latches-clauses clauses-from latch-of at-number
+  latches-from i [] = refl
+  latches-from i (l ∷ ls) = ap (λ (cs : List Clause). latch-line c i (l .numbers) ++ cs) (latches-from (suc i) ls)
+
+  ones-from : (i : ℕ) (ls : List Line) → one-clauses c (map (at-number 0) ls) ≡ clauses-from (one-line c) i ls
+  unfolding one-clauses clauses-from at-number
+  ones-from i [] = refl
+  ones-from i (l ∷ ls) = ap (λ (cs : List Clause). one-line c i (l .numbers) ++ cs) (ones-from (suc i) ls)
+
+starts-from : (i : ℕ) (ls : List Line) → start-clauses (suc i) (map latch-of ls) ≡ clauses-from start-line i ls
+unfolding start-clauses clauses-from latch-of at-number
+starts-from i [] = refl
+starts-from i (l ∷ ls) = ap (λ (cs : List Clause). start-line i (l .numbers) ++ cs) (starts-from (suc i) ls)
 
 module _ (text : List ℕ) (c : Circuit) where
   pub gates-are-parts : (kind : ℕ)
       → clause-records kind (gates-clauses (circuit-at text c) (circuit-at text c .gates))
-      ≡ parts (gate-part kind (circuit-at text c) text (c .gates .at)) 0 (c .gates .count)
+      ≡ parts (line-part kind (gate-line (circuit-at text c)) text (c .gates .at)) 0 (c .gates .count)
   unfolding circuit-at circuit-of sections-of lines-of line-after
-  gates-are-parts kind = gates-from (circuit-at text c) text (c .gates .at) kind 0 (c .gates .count)
+  gates-are-parts kind =
+      ap (clause-records kind) (gates-from (circuit-at text c) 0 (lines-of text (c .gates)))
+      ∙ parts-from kind (gate-line (circuit-at text c)) text (c .gates .at) 0 (c .gates .count)
 
   pub latches-are-parts : clause-records 3 (latches-clauses (circuit-at text c) 1 (circuit-at text c .latches))
-      ≡ parts (latch-part (circuit-at text c) text (c .latches .at)) 0 (c .latches .count)
+      ≡ parts (line-part 3 (latch-line (circuit-at text c)) text (c .latches .at)) 0 (c .latches .count)
   unfolding circuit-at circuit-of sections-of lines-of line-after
-  latches-are-parts = latches-from (circuit-at text c) text (c .latches .at) 0 (c .latches .count)
+  latches-are-parts =
+      ap (clause-records 3) (latches-from (circuit-at text c) 0 (lines-of text (c .latches)))
+      ∙ parts-from 3 (latch-line (circuit-at text c)) text (c .latches .at) 0 (c .latches .count)
+
+  pub starts-are-parts : clause-records 2 (start-clauses 1 (circuit-at text c .latches))
+      ≡ parts (line-part 2 start-line text (c .latches .at)) 0 (c .latches .count)
+  unfolding circuit-at circuit-of sections-of lines-of line-after
+  starts-are-parts =
+      ap (clause-records 2) (starts-from 0 (lines-of text (c .latches)))
+      ∙ parts-from 2 start-line text (c .latches .at) 0 (c .latches .count)
+
+  pub ones-are-parts : (kind : ℕ) (s : Lines)
+      → clause-records kind (one-clauses (circuit-at text c) (literals-of text s))
+      ≡ parts (line-part kind (one-line (circuit-at text c)) text (s .at)) 0 (s .count)
+  unfolding literals-of lines-of line-after
+  ones-are-parts kind s =
+      ap (clause-records kind) (ones-from (circuit-at text c) 0 (lines-of text s))
+      ∙ parts-from kind (one-line (circuit-at text c)) text (s .at) 0 (s .count)
+
+-- the line of a turn
+pub line-here : (kind : ℕ) (clauses : ℕ → List ℕ → List Clause) (text : List ℕ) (at p i : ℕ) → p ≡ line-after text at i
+    → line-part kind clauses text at i ≡ clause-records kind (clauses i (numbers-at text p))
+unfolding line-part
+line-here kind clauses text at p i is = ap (λ (q : ℕ). clause-records kind (clauses i (numbers-at text q))) (sym is)
 
 -- ---- one gate, and one latch
 
@@ -126,25 +169,6 @@ same-split y x x′ some is =
           (records-append 3 (clause-if (named (neg y) ∷ x ∷ [])) (clause-if (named (pos y) ∷ opposite x ∷ [])));
     }
 
-pub zero-as : (i v : ℕ) → v ≡ suc i → clause-records 2 (clause-if (edge-of (record { negative = true; variable = v }) ∷ [])) ≡ zero-part i
-unfolding zero-part literal-if clause-if
-zero-as i v is =
-    ap (λ (k : ℕ). clause-records 2 (clause-if (edge-of (record { negative = true; variable = k }) ∷ []))) is
-    ∙ rw (named-is (record { negative = true; variable = suc i }) (omega arith))
-
--- ---- the line of a turn
-
-pub gate-here : (kind : ℕ) (c : Meant.Circuit) (text : List ℕ) (at p i : ℕ) → p ≡ line-after text at i
-    → gate-part kind c text at i ≡ clause-records kind (gate-clauses c (numbers-at text p))
-unfolding gate-part
-gate-here kind c text at p i is = ap (λ (q : ℕ). clause-records kind (gate-clauses c (numbers-at text q))) (sym is)
-
-pub latch-here : (c : Meant.Circuit) (text : List ℕ) (at p i : ℕ) → p ≡ line-after text at i
-    → latch-part c text at i ≡ clause-records 3 (next-clauses (n-of c + suc i) (edge c (getD (numbers-at text p) 1 0)))
-unfolding latch-part
-latch-here c text at p i is =
-    ap (λ (q : ℕ). clause-records 3 (next-clauses (n-of c + suc i) (edge c (getD (numbers-at text q) 1 0)))) (sym is)
-
 pub latch-as : (text : List ℕ) (c : Circuit) (i l : ℕ) (x : Built.Edge) → x ≡ edge (circuit-at text c) l
     → clause-records 3 (next-clauses (c .latches .count + i + 1) x)
     ≡ clause-records 3 (next-clauses (n-of (circuit-at text c) + suc i) (edge (circuit-at text c) l))
@@ -152,3 +176,36 @@ unfolding n-of
 latch-as text c i l x is =
     let up : c .latches .count + i + 1 ≡ c .latches .count + suc i = omega arith in
     rw (is, latch-count text c, up)
+
+-- ---- where a latch starts
+
+-- at either value: no clause
+pub start-none : (i s : ℕ) (ns : List ℕ) → s ≡ start-in ns → s ≡ 2 → clause-records 2 (start-line i ns) ≡ []
+unfolding start-in start-code start-clause clause-records
+start-none i s ns is two = go (start-of (getD ns 2 0)) (sym is ∙ two)
+  where
+    go : (t : Start) → start-code t ≡ 2 → clause-records 2 (start-clause (suc i) t) ≡ []
+    go at-0 e = absurd (omega (arith, e))
+    go at-1 e = absurd (omega (arith, e))
+    go at-either e = refl
+
+-- at 0 or at 1: the clause of one edge, negative where it is 0
+pub start-some : (i s v : ℕ) (ns : List ℕ) → s ≡ start-in ns → (s ≡ 2 → ⊥) → v ≡ suc i
+    → clause-records 2 (clause-if (edge-of (record { negative = eqb s 0; variable = v }) ∷ [])) ≡ clause-records 2 (start-line i ns)
+unfolding start-in start-code start-clause clause-if literal-if
+start-some i s v ns is other v-is =
+    ap (λ (k : ℕ). clause-records 2 (clause-if (edge-of (record { negative = eqb s 0; variable = k }) ∷ []))) v-is
+    ∙ ap (λ (k : ℕ). clause-records 2 (clause-if (edge-of (record { negative = eqb k 0; variable = suc i }) ∷ []))) is
+    ∙ go (start-of (getD ns 2 0)) (λ e. other (is ∙ e))
+  where
+    go : (t : Start) → (start-code t ≡ 2 → ⊥)
+        → clause-records 2 (clause-if (edge-of (record { negative = eqb (start-code t) 0; variable = suc i }) ∷ []))
+        ≡ clause-records 2 (start-clause (suc i) t)
+    go at-0 o = rw (named-is (record { negative = true; variable = suc i }) (omega arith))
+    go at-1 o = rw (named-is (record { negative = false; variable = suc i }) (omega arith))
+    go at-either o = absurd (o refl)
+
+-- ---- a literal that is to be 1
+
+pub one-as : (kind : ℕ) {d e : Built.Edge} → d ≡ e → clause-records kind (clause-if (d ∷ [])) ≡ clause-records kind (clause-if (e ∷ []))
+one-as kind is = ap (λ (e : Built.Edge). clause-records kind (clause-if (e ∷ []))) is

@@ -1,14 +1,14 @@
 // What stands for a literal of the circuit: a constant, or a literal of the problem.
 ghost use mathlib.Core.Path.{_≡_};
-ghost use Prim.Native.Nat.{_<_, _≤_};
+ghost use Prim.Native.Nat.{suc, _≤_};
 ghost use lib.ListN.{getD};
 ghost use Rattle.meaning.specs.Circuit.{var};
 ghost use Rattle.meaning.specs.Built.{edge, opposite};
 ghost use Rattle.meaning.specs.CircuitText.{«numbers-at»};
 ghost use Rattle.lines.specs.Numbers.{Stands, worth};
 ghost use Rattle.sections.specs.Whole.{«circuit-at»};
+ghost use Rattle.clause_count.specs.Rows.{RowAt};
 ghost use Rattle.built.specs.Edges.{«edge-of», «variable-of», Small};
-ghost use Rattle.built.specs.Rows.{Row};
 use lines::literal::is_even;
 use lines::number::Number;
 use sections::circuit::Circuit;
@@ -57,14 +57,13 @@ fn variable_at(text: &[u8], c: Circuit, x: Number) -> usize
     n + n + count + find(text, gates, x) + 1
 }
 
-// Number j of a line of so many.
-pub fn edge_at(text: &[u8], c: Circuit, at: usize, width: usize, j: usize) -> Edge
+// Number j of a line.
+pub fn edge_at(text: &[u8], c: Circuit, at: usize, j: usize) -> Edge
     requires { ⌜ Small (now text) c ⌝ }
-    requires { ⌜ Row (now text) width at ⌝ }
-    requires { ⌜ j < width ⌝ }
+    requires { ⌜ RowAt (now text) (suc j) at ⌝ }
     ensures { λ r. ⌜ («edge-of» r ≡ edge («circuit-at» (now (text .entry)) c) (getD («numbers-at» (now (text .entry)) at) j 0)) × (r .variable ≤ 513) ⌝ }
 {
-    let x = nth(text, at, width, j);
+    let x = nth(text, at, j);
     let negative = !is_even(text, x);
     let variable = variable_at(text, c, x);
     Edge { negative, variable }

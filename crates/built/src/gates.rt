@@ -5,8 +5,8 @@ ghost use Rattle.meaning.specs.Built.{«and-clauses», «gates-clauses»};
 ghost use Rattle.meaning.specs.CircuitText.{«numbers-at»};
 ghost use Rattle.meaning.specs.Filed.{«clause-records»};
 ghost use Rattle.sections.specs.Whole.{«circuit-at»};
+ghost use Rattle.clause_count.specs.Rows.{RowAt};
 ghost use Rattle.built.specs.Edges.{«edge-of», Small};
-ghost use Rattle.built.specs.Rows.{Row};
 ghost use Rattle.built.specs.Sections.{«gate-clauses»};
 ghost use Rattle.built.specs.Wrote.{Wrote};
 use crate::clause::put_clause;
@@ -37,14 +37,14 @@ fn put_and(out: &mut [u8], at: usize, kind: usize, g: Edge, a: Edge, b: Edge) ->
 // The clauses of the gate on a line.
 fn put_gate(text: &[u8], c: Circuit, line: usize, out: &mut [u8], at: usize, kind: usize) -> usize
     requires { ⌜ Small (now text) c ⌝ }
-    requires { ⌜ Row (now text) 3 line ⌝ }
+    requires { ⌜ RowAt (now text) 3 line ⌝ }
     requires { ⌜ kind < 65536 ⌝ }
     requires { ⌜ at + length («clause-records» kind («gate-clauses» («circuit-at» (now text) c) («numbers-at» (now text) line))) ≤ length (now out) ⌝ }
     ensures { λ r. ⌜ Wrote («clause-records» kind («gate-clauses» («circuit-at» (now (text .entry)) c) («numbers-at» (now (text .entry)) line))) at (now (out .entry)) r (now (out .exit)) ⌝ }
 {
-    let g = edge_at(text, c, line, 3, 0);
-    let a = edge_at(text, c, line, 3, 1);
-    let b = edge_at(text, c, line, 3, 2);
+    let g = edge_at(text, c, line, 0);
+    let a = edge_at(text, c, line, 1);
+    let b = edge_at(text, c, line, 2);
     put_and(out, at, kind, g, a, b)
 }
 

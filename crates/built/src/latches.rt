@@ -1,37 +1,55 @@
-// The clauses of the latches: all start at 0, and each takes the value of its next literal.
-ghost use Prim.Native.Nat.{suc, _+_, _<_, _≤_};
-ghost use lib.ListN.{length, getD};
-ghost use Rattle.meaning.specs.Built.{edge, «n-of», «next-clauses», «latches-clauses»};
+// The clauses of the latches: each starts where its line says, and takes the value of its next literal.
+ghost use Prim.Native.Nat.{_+_, _<_, _≤_};
+ghost use lib.ListN.{length};
+ghost use Rattle.meaning.specs.Built.{«next-clauses», «latches-clauses», «start-clauses»};
 ghost use Rattle.meaning.specs.CircuitText.{«numbers-at»};
 ghost use Rattle.meaning.specs.Filed.{«clause-records»};
 ghost use Rattle.sections.specs.Whole.{«circuit-at»};
+ghost use Rattle.clause_count.specs.Rows.{RowAt};
 ghost use Rattle.built.specs.Edges.{«edge-of», Small};
-ghost use Rattle.built.specs.Rows.{Row};
-ghost use Rattle.built.specs.Turns.{parts};
-ghost use Rattle.built.specs.Sections.{«zero-part»};
+ghost use Rattle.built.specs.Sections.{«latch-line», «start-line»};
 ghost use Rattle.built.specs.Wrote.{Wrote};
 use crate::clause::put_one_edge;
 use crate::clause::put_two_edges;
 use crate::edge::Edge;
 use crate::edge::edge_at;
 use crate::edge::opposite;
+use clause_count::start::start_at;
 use lines::line::next_line;
 use sections::circuit::Circuit;
 
-// One clause for each of so many latches: it is 0.
-pub fn put_zeros(out: &mut [u8], at: usize, latches: usize) -> usize
-    requires { ⌜ latches ≤ 96 ⌝ }
-    requires { ⌜ at + length (parts «zero-part» 0 latches) ≤ length (now out) ⌝ }
-    ensures { λ r. ⌜ Wrote (parts «zero-part» 0 latches) at (now (out .entry)) r (now (out .exit)) ⌝ }
+// The clause of where latch i, counted from 0, starts: it is 0, or it is 1; none where it starts at either value.
+fn put_start(text: &[u8], line: usize, i: usize, out: &mut [u8], at: usize) -> usize
+    requires { ⌜ RowAt (now text) 2 line ⌝ }
+    requires { ⌜ i < 96 ⌝ }
+    requires { ⌜ at + length («clause-records» 2 («start-line» i («numbers-at» (now text) line))) ≤ length (now out) ⌝ }
+    ensures { λ r. ⌜ Wrote («clause-records» 2 («start-line» i («numbers-at» (now (text .entry)) line))) at (now (out .entry)) r (now (out .exit)) ⌝ }
 {
+    let start = start_at(text, line);
+    if start == 2 {
+        return at;
+    }
+    let e = Edge {
+        negative: start == 0,
+        variable: i + 1,
+    };
+    put_one_edge(out, at, 2, e)
+}
+
+// The clauses of where all latches start, by line order.
+pub fn put_starts(text: &[u8], c: Circuit, out: &mut [u8], at: usize) -> usize
+    requires { ⌜ Small (now text) c ⌝ }
+    requires { ⌜ at + length («clause-records» 2 («start-clauses» 1 («circuit-at» (now text) c .latches))) ≤ length (now out) ⌝ }
+    ensures { λ r. ⌜ Wrote («clause-records» 2 («start-clauses» 1 («circuit-at» (now (text .entry)) c .latches))) at (now (out .entry)) r (now (out .exit)) ⌝ }
+{
+    let latches = c.latches;
+    let count = latches.count;
+    let mut line = latches.at;
     let mut to = at;
     let mut i: usize = 0;
-    while i < latches {
-        let zero = Edge {
-            negative: true,
-            variable: i + 1,
-        };
-        to = put_one_edge(out, to, 2, zero);
+    while i < count {
+        to = put_start(text, line, i, out, to);
+        line = next_line(text, line);
         i += 1;
     }
     to
@@ -61,12 +79,12 @@ fn put_same(out: &mut [u8], at: usize, y: usize, x: Edge) -> usize
 // The clauses of latch i, counted from 0, on a line.
 fn put_latch(text: &[u8], c: Circuit, line: usize, i: usize, out: &mut [u8], at: usize) -> usize
     requires { ⌜ Small (now text) c ⌝ }
-    requires { ⌜ Row (now text) 2 line ⌝ }
+    requires { ⌜ RowAt (now text) 2 line ⌝ }
     requires { ⌜ i < 96 ⌝ }
-    requires { ⌜ at + length («clause-records» 3 («next-clauses» («n-of» («circuit-at» (now text) c) + suc i) (edge («circuit-at» (now text) c) (getD («numbers-at» (now text) line) 1 0)))) ≤ length (now out) ⌝ }
-    ensures { λ r. ⌜ Wrote («clause-records» 3 («next-clauses» («n-of» («circuit-at» (now (text .entry)) c) + suc i) (edge («circuit-at» (now (text .entry)) c) (getD («numbers-at» (now (text .entry)) line) 1 0)))) at (now (out .entry)) r (now (out .exit)) ⌝ }
+    requires { ⌜ at + length («clause-records» 3 («latch-line» («circuit-at» (now text) c) i («numbers-at» (now text) line))) ≤ length (now out) ⌝ }
+    ensures { λ r. ⌜ Wrote («clause-records» 3 («latch-line» («circuit-at» (now (text .entry)) c) i («numbers-at» (now (text .entry)) line))) at (now (out .entry)) r (now (out .exit)) ⌝ }
 {
-    let x = edge_at(text, c, line, 2, 1);
+    let x = edge_at(text, c, line, 1);
     let latches = c.latches;
     put_same(out, at, latches.count + i + 1, x)
 }

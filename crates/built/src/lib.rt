@@ -2,15 +2,14 @@
 ghost use mathlib.Core.Path.{_≡_};
 ghost use Prim.Native.Nat.{_+_, _<_, _≤_};
 ghost use mathlib.Core.Bool.{false};
-ghost use mathlib.Core.List.{[], _∷_, _++_};
+ghost use mathlib.Core.List.{[], _++_};
 ghost use lib.ListN.{length};
-ghost use Rattle.meaning.specs.Circuit.{output};
-ghost use Rattle.meaning.specs.Built.{edge, «clause-if»};
 ghost use Rattle.meaning.specs.LemmaText.{«read-lemma-text»};
-ghost use Rattle.meaning.specs.Filed.{two, «record-bytes», «clause-records», «file-of»};
+ghost use Rattle.meaning.specs.Filed.{two, «record-bytes», «file-of»};
 ghost use Rattle.records.specs.Put.{put};
 ghost use Rattle.lemma_text.specs.Rest.{«summary-of»};
 ghost use Rattle.sections.specs.Whole.{«circuit-at»};
+ghost use Rattle.clause_count.specs.Bad.{OneBad};
 ghost use Rattle.built.specs.Edges.{Small};
 ghost use Rattle.built.specs.Wrote.{Wrote};
 ghost use Rattle.built.specs.Problem.{«tr-records», «bad-records», «problem-of»};
@@ -19,13 +18,14 @@ pub mod clause;
 pub mod edge;
 pub mod gates;
 pub mod latches;
+pub mod ones;
 
-use clause::put_one_edge;
-use edge::edge_at;
+use clause_count::bad::bad_lines;
 use gates::put_gates;
 use latches::put_latches;
-use latches::put_zeros;
+use latches::put_starts;
 use lemma_text::write_lemmas;
+use ones::put_ones;
 use records::put_head;
 use records::put_two;
 use sections::circuit::Circuit;
@@ -52,43 +52,38 @@ fn put_end(out: &mut [u8], at: usize) -> usize
     at + 4
 }
 
-// The clause of the output.
-fn put_output(text: &[u8], c: Circuit, out: &mut [u8], at: usize) -> usize
-    requires { ⌜ Small (now text) c ⌝ }
-    requires { ⌜ c .outputs .count ≡ 1 ⌝ }
-    requires { ⌜ at + length («clause-records» 4 («clause-if» (edge («circuit-at» (now text) c) (output («circuit-at» (now text) c)) ∷ []))) ≤ length (now out) ⌝ }
-    ensures { λ r. ⌜ Wrote («clause-records» 4 («clause-if» (edge («circuit-at» (now (text .entry)) c) (output («circuit-at» (now (text .entry)) c)) ∷ []))) at (now (out .entry)) r (now (out .exit)) ⌝ }
-{
-    let outputs = c.outputs;
-    let e = edge_at(text, c, outputs.at, 1, 0);
-    put_one_edge(out, at, 4, e)
-}
-
-// Tr: the gates, then the latches.
+// Tr: the gates, then the latches, then the constraints.
 fn put_tr(text: &[u8], c: Circuit, out: &mut [u8], at: usize) -> usize
     requires { ⌜ Small (now text) c ⌝ }
     requires { ⌜ at + length («tr-records» («circuit-at» (now text) c)) ≤ length (now out) ⌝ }
     ensures { λ r. ⌜ Wrote («tr-records» («circuit-at» (now (text .entry)) c)) at (now (out .entry)) r (now (out .exit)) ⌝ }
 {
+    let properties = c.properties;
+    let constraints = properties.constraints;
     let to = put_gates(text, c, out, at, 3);
-    put_latches(text, c, out, to)
+    let on = put_latches(text, c, out, to);
+    put_ones(text, c, constraints, out, on, 3)
 }
 
-// Bad: the gates again, then the output.
+// Bad: the gates again, then the bad literal, then the constraints.
 fn put_bad(text: &[u8], c: Circuit, out: &mut [u8], at: usize) -> usize
     requires { ⌜ Small (now text) c ⌝ }
-    requires { ⌜ c .outputs .count ≡ 1 ⌝ }
+    requires { ⌜ OneBad (c .properties) ⌝ }
     requires { ⌜ at + length («bad-records» («circuit-at» (now text) c)) ≤ length (now out) ⌝ }
     ensures { λ r. ⌜ Wrote («bad-records» («circuit-at» (now (text .entry)) c)) at (now (out .entry)) r (now (out .exit)) ⌝ }
 {
+    let properties = c.properties;
+    let constraints = properties.constraints;
+    let bad = bad_lines(properties);
     let to = put_gates(text, c, out, at, 4);
-    put_output(text, c, out, to)
+    let on = put_ones(text, c, bad, out, to, 4);
+    put_ones(text, c, constraints, out, on, 4)
 }
 
 // Writes the file of the problem that is built, from the start, and says how long it is.
 pub fn write_problem(text: &[u8], c: Circuit, lemmas: &[u8], out: &mut [u8]) -> usize
     requires { ⌜ Small (now text) c ⌝ }
-    requires { ⌜ c .outputs .count ≡ 1 ⌝ }
+    requires { ⌜ OneBad (c .properties) ⌝ }
     requires { ⌜ «summary-of» («read-lemma-text» (c .latches .count) (now lemmas)) .fault ≡ false ⌝ }
     requires { ⌜ «summary-of» («read-lemma-text» (c .latches .count) (now lemmas)) .longest ≤ 64 ⌝ }
     requires { ⌜ length («file-of» («problem-of» (now text) c (now lemmas))) ≤ length (now out) ⌝ }
@@ -99,7 +94,7 @@ pub fn write_problem(text: &[u8], c: Circuit, lemmas: &[u8], out: &mut [u8]) -> 
     let gates = c.gates;
     let n = latches.count;
     let init = put_first(out, 0, n, inputs.count + gates.count);
-    let tr = put_zeros(out, init, n);
+    let tr = put_starts(text, c, out, init);
     let bad = put_tr(text, c, out, tr);
     let last = put_bad(text, c, out, bad);
     let end = write_lemmas(lemmas, n, out, last);

@@ -15,7 +15,7 @@ use Rattle.meaning.specs.CircuitText
 use Rattle.meaning.specs.CircuitText.{Text, read-circuit-text}
 use Rattle.meaning.specs.LemmaText
 use Rattle.meaning.specs.LemmaText.{Lemmas, read-lemma-text}
-use Rattle.meaning.specs.Circuits.{over-limits, refusal-13, refusal-14, on-lemmas, on-circuit, read-circuit}
+use Rattle.meaning.specs.Circuits.{over-limits, has-liveness, refusal-13, refusal-14, refusal-15, on-lemmas, on-circuit, read-circuit}
 use Rattle.laws.specs.Basics.{nonzero}
 use Rattle.laws.specs.Accepted.{rejected-is-not-accepted}
 use Rattle.filed.specs.Fits.{Fits}
@@ -31,6 +31,7 @@ pub record Texts (text lemma-text : List ℕ) (p : Problem) : Type 0 where
   pub lemmas : List Clause
   pub circuit-read : read-circuit-text text ≡ CircuitText.right circuit
   pub lemmas-read : read-lemma-text (length (circuit .latches)) lemma-text ≡ LemmaText.right lemmas
+  pub no-liveness : has-liveness circuit ≡ false
   pub within : over-limits text lemma-text circuit lemmas ≡ false
   pub is-built : p ≡ built circuit lemmas
 
@@ -43,18 +44,29 @@ Accepted text lemma-text = (p : Problem) × (read-circuit text lemma-text ≡ ac
 
 -- how two texts are read
 pub reading-cases : (text lemma-text : List ℕ) → Refused text lemma-text ⊎ Accepted text lemma-text
-unfolding read-circuit on-circuit on-lemmas refusal-13 refusal-14
+unfolding read-circuit on-circuit on-lemmas refusal-13 refusal-14 refusal-15
 reading-cases text lemma-text = on-text (read-circuit-text text) refl
   where
     by-limits : (c : Circuit) (lemmas : List Clause) → read-circuit-text text ≡ CircuitText.right c
-        → read-lemma-text (length (c .latches)) lemma-text ≡ LemmaText.right lemmas → (b : Bool) → over-limits text lemma-text c lemmas ≡ b
-        → read-circuit text lemma-text ≡ cond b refusal-14 (accepted (built c lemmas)) → Refused text lemma-text ⊎ Accepted text lemma-text
-    by-limits c lemmas e f true g is = inl (record { number = 14; place = 0 }, is, nonzero 13)
-    by-limits c lemmas e f false g is =
+        → read-lemma-text (length (c .latches)) lemma-text ≡ LemmaText.right lemmas → (live over : Bool) → has-liveness c ≡ live
+        → over-limits text lemma-text c lemmas ≡ over
+        → read-circuit text lemma-text ≡ cond live refusal-15 (cond over refusal-14 (accepted (built c lemmas)))
+        → Refused text lemma-text ⊎ Accepted text lemma-text
+    by-limits c lemmas e f true over live g is = inl (record { number = 15; place = 0 }, is, nonzero 14)
+    by-limits c lemmas e f false true live g is = inl (record { number = 14; place = 0 }, is, nonzero 13)
+    by-limits c lemmas e f false false live g is =
         inr (
           built c lemmas,
           is,
-          record { circuit = c; lemmas = lemmas; circuit-read = e; lemmas-read = f; within = g; is-built = refl },
+          record {
+            circuit = c;
+            lemmas = lemmas;
+            circuit-read = e;
+            lemmas-read = f;
+            no-liveness = live;
+            within = g;
+            is-built = refl;
+          },
         )
 
     by-lemmas : (c : Circuit) → read-circuit-text text ≡ CircuitText.right c → (ls : Lemmas)
@@ -62,7 +74,7 @@ reading-cases text lemma-text = on-text (read-circuit-text text) refl
     by-lemmas c e (LemmaText.wrong at) f =
         inl (record { number = 13; place = at }, ap (on-circuit text lemma-text) e ∙ ap (on-lemmas text lemma-text c) f, nonzero 12)
     by-lemmas c e (LemmaText.right lemmas) f =
-        by-limits c lemmas e f (over-limits text lemma-text c lemmas) refl
+        by-limits c lemmas e f (has-liveness c) (over-limits text lemma-text c lemmas) refl refl
         (ap (on-circuit text lemma-text) e ∙ ap (on-lemmas text lemma-text c) f)
 
     on-text : (t : Text) → read-circuit-text text ≡ t → Refused text lemma-text ⊎ Accepted text lemma-text

@@ -3,17 +3,19 @@ use Prim.Native.Nat.{ℕ, suc, _+_, _≤_}
 use native.Mathlib.Omega.{arith}
 use mathlib.Core.Path.{_≡_, refl}
 use mathlib.Core.Logic.{inl, inr}
+use mathlib.Core.Bool.{true}
 use mathlib.Core.List.{List, [], _∷_, _++_}
 use lib.ListN.{length}
 use Rattle.meaning.specs.Clauses.{pos, neg, Clause, variable}
 use Rattle.meaning.specs.Demands.{In}
 use Rattle.meaning.specs.Rules.{width}
-use Rattle.meaning.specs.Circuit.{Circuit, Latch, Gate, output}
-use Rattle.meaning.specs.Built.{Edge, constant, named, n-of, helpers, edge, opposite, clause-if, and-clauses, gates-clauses, next-clauses, latches-clauses, zero-clauses, built}
+use Rattle.meaning.specs.Circuit.{Circuit, Latch, Gate, Start, at-0, at-1, at-either, var, bad-literal}
+use Rattle.meaning.specs.Built.{Edge, constant, named, n-of, helpers, edge, opposite, clause-if, and-clauses, gates-clauses, next-clauses, latches-clauses, start-clause, start-clauses, one-clauses, built}
+use Rattle.meaning.specs.CircuitText.{known}
 use Rattle.laws.specs.Within.{ClausesOf, UpTo, Within, Present, WellFormed}
 use Rattle.laws.specs.Range.{of-append, present-within}
 use Rattle.circuit_laws.specs.Sane.{Sane}
-use Rattle.circuit_laws.specs.Known.{gate-known, left-known, right-known, output-is-known}
+use Rattle.circuit_laws.specs.Known.{gate-known, left-known, right-known, bad-is-known, bad-or-constraint}
 use Rattle.circuit_laws.specs.Numbers.{EdgeOf, edge-present, opposite-of, clause-if-of}
 
 module _ (P : ℕ → Type 0) where
@@ -39,6 +41,17 @@ module _ (P : ℕ → Type 0) where
 edge-within : (n m : ℕ) (e : Edge) → EdgeOf (Present n m) e → EdgeOf (UpTo (n + n + m)) e
 edge-within n m (constant b) h = tt
 edge-within n m (named l) h = present-within n m ((l ∷ []) ∷ []) ((h, tt), tt) .0 .0
+
+-- the clauses of literals that are known
+ones-present : (c : Circuit) (ls : List ℕ) → ((l : ℕ) → In l ls → known c (var l) ≡ true)
+    → ClausesOf (Present (n-of c) (length (helpers c))) (one-clauses c ls)
+unfolding one-clauses
+ones-present c [] are-known = tt
+ones-present c (l ∷ ls) are-known =
+    let P = Present (n-of c) (length (helpers c)) in
+    of-append P (clause-if (edge c l ∷ [])) (one-clauses c ls)
+    (clause-if-of P (edge c l ∷ []) (edge-present c l (are-known l (inl refl)), tt))
+    (ones-present c ls (λ k i. are-known k (inr i)))
 
 module _ (c : Circuit) (s : Sane c) where
   gates-present : (gs : List Gate) → ((g : Gate) → In g gs → In g (c .gates))
@@ -66,31 +79,37 @@ module _ (c : Circuit) (s : Sane c) where
       (edge-present c (q .next) (s .next-known q (part q (inl refl))))))
       (latches-within (suc i) qs (λ d h. part d (inr h)) (omega arith) (omega arith))
 
-  output-present : length (c .outputs) ≡ 1 → ClausesOf (Present (n-of c) (length (helpers c))) (clause-if (edge c (output c) ∷ []))
-  output-present one =
-      clause-if-of (Present (n-of c) (length (helpers c))) (edge c (output c) ∷ [])
-      (edge-present c (output c) (output-is-known c s one), tt)
+start-within : (n i : ℕ) (s : Start) → UpTo n i → Within n (start-clause i s)
+unfolding start-clause variable
+start-within n i at-0 h = ((h, tt), tt)
+start-within n i at-1 h = ((h, tt), tt)
+start-within n i at-either h = tt
 
-zero-within : (n i : ℕ) (qs : List Latch) → 1 ≤ i → i + length qs ≤ suc n → Within n (zero-clauses i qs)
-unfolding zero-clauses variable
-zero-within n i [] least most = tt
-zero-within n i (q ∷ qs) least most =
-    (((least, omega arith), tt), zero-within n (suc i) qs (omega arith) (omega arith))
+starts-within : (n i : ℕ) (qs : List Latch) → 1 ≤ i → i + length qs ≤ suc n → Within n (start-clauses i qs)
+unfolding start-clauses
+starts-within n i [] least most = tt
+starts-within n i (q ∷ qs) least most =
+    of-append (UpTo n) (start-clause i (q .start)) (start-clauses (suc i) qs) (start-within n i (q .start) (least, omega arith))
+    (starts-within n (suc i) qs (omega arith) (omega arith))
 
-pub built-well-formed : (c : Circuit) (lemmas : List Clause) → Sane c → length (c .outputs) ≡ 1 → Within (length (c .latches)) lemmas
-    → WellFormed (built c lemmas)
+pub built-well-formed : (c : Circuit) (lemmas : List Clause) → Sane c → length (c .outputs) + length (c .bads) ≡ 1
+    → Within (length (c .latches)) lemmas → WellFormed (built c lemmas)
 unfolding built n-of width
 built-well-formed c lemmas s one within =
     let n = length (c .latches) in
+    let m = length (helpers c) in
     let gates = gates-present c s (c .gates) (λ g h. h) in
+    let constraints = ones-present c (c .constraints) (s .constraint-known) in
     record {
-      init = zero-within n 1 (c .latches) (omega arith) (omega arith);
+      init = starts-within n 1 (c .latches) (omega arith) (omega arith);
       tr =
-          of-append (UpTo (n + n + length (helpers c))) (gates-clauses c (c .gates)) (latches-clauses c 1 (c .latches))
-          (present-within n (length (helpers c)) (gates-clauses c (c .gates)) gates)
-          (latches-within c s 1 (c .latches) (λ q h. h) (omega arith) (omega arith));
+          of-append (UpTo (n + n + m)) (gates-clauses c (c .gates)) (latches-clauses c 1 (c .latches) ++ one-clauses c (c .constraints))
+          (present-within n m (gates-clauses c (c .gates)) gates)
+          (of-append (UpTo (n + n + m)) (latches-clauses c 1 (c .latches)) (one-clauses c (c .constraints))
+          (latches-within c s 1 (c .latches) (λ q h. h) (omega arith) (omega arith))
+          (present-within n m (one-clauses c (c .constraints)) constraints));
       bad =
-          of-append (Present n (length (helpers c))) (gates-clauses c (c .gates)) (clause-if (edge c (output c) ∷ [])) gates
-          (output-present c s one);
+          of-append (Present n m) (gates-clauses c (c .gates)) (one-clauses c (bad-literal c ∷ c .constraints)) gates
+          (ones-present c (bad-literal c ∷ c .constraints) (bad-or-constraint c s (bad-is-known c s one)));
       lemmas = within;
     }

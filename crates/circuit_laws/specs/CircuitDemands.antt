@@ -13,7 +13,7 @@ use Rattle.meaning.specs.Demands.{Answered, RefusedBy, set-left, rows-left, Som
 use Rattle.meaning.specs.Circuits.{read-circuit, CircuitProgram, circuit-check-call, circuit-largest-call, circuit-one-call, circuit-list-call}
 use Rattle.laws.specs.DemandsHold.{the-trimmer, demand-2, demand-3}
 use Rattle.circuit_laws.specs.AcceptedTexts.{circuit-read-back}
-use Rattle.circuit_laws.specs.Theorems.{NeverOutputs1, answered-never-outputs-1}
+use Rattle.circuit_laws.specs.Theorems.{NeverBad, answered-never-bad}
 
 -- a program for each of the four jobs
 pub record CircuitTrimmer : Type 0 where
@@ -41,9 +41,9 @@ pub record CircuitDemand2 (t : CircuitTrimmer) : Type 0 where
   -- The single set is safe and inductive, and no proper part of it is safe and inductive ..
   pub minimal : (text lemma-text : List ℕ) (p : Problem) (budget : ℕ) (lent : List ℕ) → read-circuit text lemma-text ≡ accepted p
       → Answered (t .one text lemma-text budget lent) → Minimal p (set-left p (t .one text lemma-text budget lent))
-  -- .. so no run of the circuit reaches a state where its output can be 1.
+  -- .. so no run of the circuit reaches a bad state.
   pub no-run : (text lemma-text : List ℕ) (p : Problem) (budget : ℕ) (lent : List ℕ) → read-circuit text lemma-text ≡ accepted p
-      → Answered (t .one text lemma-text budget lent) → NeverOutputs1 text
+      → Answered (t .one text lemma-text budget lent) → NeverBad text
   -- On accepted texts, when the budget suffices, a call for the single set with room for its marks is refused exactly if no subset of the
   -- candidates would do.
   pub refused : (text lemma-text : List ℕ) (p : Problem) (budget : ℕ) (lent : List ℕ) → read-circuit text lemma-text ≡ accepted p
@@ -121,7 +121,7 @@ circuit-demand-2 =
           subst⁻¹ (λ (o : Outcome). Minimal p (set-left p o)) same
           (demand-2 .minimal (file-of p) p budget lent (circuit-read-back text lemma-text p e) (subst Answered same h));
       no-run = λ text lemma-text p budget lent e h.
-          answered-never-outputs-1 circuit-one-call (λ text′ lemma-text′ budget′ lent′. refl) text lemma-text budget lent h;
+          answered-never-bad circuit-one-call (λ text′ lemma-text′ budget′ lent′. refl) text lemma-text budget lent h;
       refused = λ text lemma-text p budget lent e enough room.
           subst⁻¹ (λ (o : Outcome). (Answered o → ⊥) ↔ (SomeSafeInductive p → ⊥)) (circuit-one-is text lemma-text p budget lent e)
           (demand-2 .refused (file-of p) p budget lent (circuit-read-back text lemma-text p e) enough room);

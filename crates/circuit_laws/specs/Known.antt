@@ -11,7 +11,7 @@ use borrow.Author.Tests.{eqb-true, eq-eqb, lt-leb}
 use Rattle.meaning.specs.Clauses.{Values}
 use Rattle.meaning.specs.Meaning.{State, moment}
 use Rattle.meaning.specs.Demands.{In}
-use Rattle.meaning.specs.Circuit.{Circuit, Latch, Gate, var, output, input-variables, latch-variables, gate-variables, variables, InputsAre, LatchesAre}
+use Rattle.meaning.specs.Circuit.{Circuit, Latch, Gate, var, bad-literal, input-variables, latch-variables, gate-variables, variables, InputsAre, LatchesAre}
 use Rattle.meaning.specs.Built.{among, position, n-of, helpers, number}
 use Rattle.meaning.specs.CircuitText.{known, given, worked-out, gate-works}
 use Rattle.laws.specs.Basics.{and-left, and-right, or-cases, or-left, or-right, in-append-left, in-append-right, in-append-cases}
@@ -223,14 +223,22 @@ module _ (c : Circuit) where
   pub right-known : (g : Gate) → gate-works c g ≡ true → known c (var (g .right)) ≡ true
   right-known g h = out-known (length (c .gates)) (var (g .right)) (right-out g h)
 
-  -- a single output is known
-  pub output-is-known : Sane c → length (c .outputs) ≡ 1 → known c (var (output c)) ≡ true
-  unfolding output
-  output-is-known sane one = go (c .outputs) one (sane .output-known)
+  -- the bad literal or single output is known
+  pub bad-is-known : Sane c → length (c .outputs) + length (c .bads) ≡ 1 → known c (var (bad-literal c)) ≡ true
+  unfolding bad-literal
+  bad-is-known sane one = go (c .bads) (c .outputs) one (sane .bad-known) (sane .output-known)
     where
-      go : (ls : List ℕ) → length ls ≡ 1 → ((l : ℕ) → In l ls → known c (var l) ≡ true) → known c (var (getD ls 0 0)) ≡ true
-      go [] e f = absurd (omega arith)
-      go (l ∷ ls) e f = f l (inl refl)
+      go : (bads outputs : List ℕ) → length outputs + length bads ≡ 1 → ((l : ℕ) → In l bads → known c (var l) ≡ true)
+          → ((l : ℕ) → In l outputs → known c (var l) ≡ true) → known c (var (getD (bads ++ outputs) 0 0)) ≡ true
+      go [] [] e f g = absurd (omega arith)
+      go [] (l ∷ ls) e f g = g l (inl refl)
+      go (l ∷ ls) outputs e f g = f l (inl refl)
+
+  -- the bad literal and the constraints are known
+  pub bad-or-constraint : Sane c → known c (var (bad-literal c)) ≡ true → (l : ℕ) → In l (bad-literal c ∷ c .constraints)
+      → known c (var l) ≡ true
+  bad-or-constraint sane bad l (inl e) = ap (λ (k : ℕ). known c (var k)) e ∙ bad
+  bad-or-constraint sane bad l (inr i) = sane .constraint-known l i
 
   -- ---- a moment at the number of a variable
 

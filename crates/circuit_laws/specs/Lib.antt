@@ -18,3 +18,4 @@ pub mod Theorems
 pub mod ProblemCall
 pub mod CircuitDemands
 pub mod CircuitMisread
+pub mod Older

@@ -8,11 +8,11 @@ use mathlib.Core.List.{List, [], _∷_, _++_}
 use lib.ListN.{length, getD}
 use lib.Dec.{eqb}
 use borrow.Author.Tests.{eqb-true, eqb-false, ne-eqb}
-use Rattle.meaning.specs.Clauses.{Clause, neg, Values, is-true, any, all, holds, all-hold}
+use Rattle.meaning.specs.Clauses.{Clause, Values, is-true, any, all, holds, all-hold}
 use Rattle.meaning.specs.Meaning.{State, moment, InitState, BadState, Step, StepsFrom, Run}
 use Rattle.meaning.specs.Demands.{In}
-use Rattle.meaning.specs.Circuit.{Circuit, Latch, Gate, var, negated, output, value, GatesAre, Worth, AllZero, StartState, AllNext, NextState, NextStates, CircuitRun, OutputCanBe1, input-variables, latch-variables, gate-variables, variables}
-use Rattle.meaning.specs.Built.{position, n-of, helpers, number, constant, named, literal-if, edge, clause-if, and-clauses, gates-clauses, next-clauses, latches-clauses, zero-clauses, built}
+use Rattle.meaning.specs.Circuit.{Circuit, Latch, Gate, Start, at-0, at-1, at-either, var, negated, bad-literal, value, GatesAre, Worth, StartsWith, AllStart, StartState, AllOne, AllNext, NextState, NextStates, CircuitRun, CanBeBad, input-variables, latch-variables, gate-variables, variables}
+use Rattle.meaning.specs.Built.{position, n-of, helpers, number, constant, named, literal-if, edge, clause-if, and-clauses, gates-clauses, next-clauses, latches-clauses, start-clause, start-clauses, one-clauses, built}
 use Rattle.meaning.specs.CircuitText.{known}
 use Rattle.laws.specs.Basics.{and-left, and-right, and-both, all-append}
 use Rattle.laws.specs.Within.{UpTo}
@@ -20,7 +20,7 @@ use Rattle.laws.specs.Moment.{moment-next}
 use Rattle.circuit_laws.specs.Sane.{Sane}
 use Rattle.circuit_laws.specs.Listed.{at-position, position-first}
 use Rattle.circuit_laws.specs.Edges.{edge-true, clause-if-holds, beq-is, and-clauses-hold, next-clauses-hold}
-use Rattle.circuit_laws.specs.Known.{inputs-of, latches-at, latches-of, input-variable, latch-variable, latch-or-helper, input-no-latch, helper-no-latch, known-cases, gate-known, left-known, right-known, at-latch, at-helper}
+use Rattle.circuit_laws.specs.Known.{inputs-of, latches-at, latches-of, input-variable, latch-variable, latch-or-helper, input-no-latch, helper-no-latch, known-cases, gate-known, left-known, right-known, bad-or-constraint, at-latch, at-helper}
 
 -- ---- clauses and what they say
 
@@ -39,16 +39,27 @@ append-says w cs ds first second = (
 same-says : {a b h : Bool} → h ≡ Bool·beq a b → (h ≡ true) ↔ (a ≡ b)
 same-says {a} {b} e = (λ t. beq-is a b .0 (sym e ∙ t), λ t. e ∙ beq-is a b .1 t)
 
--- (-i)
+-- (-i), and (i)
 zero-law : (b : Bool) → ((not b || false) && true) ≡ Bool·beq b false
 zero-law true = refl
 zero-law false = refl
 
-zero-says : (s : State) (i : ℕ) (qs : List Latch) → (all-hold s (zero-clauses i qs) ≡ true) ↔ AllZero s i qs
-unfolding zero-clauses all-hold all holds any is-true
-zero-says s i [] = (λ h. tt, λ h. refl)
-zero-says s i (q ∷ qs) =
-    append-says s ((neg i ∷ []) ∷ []) (zero-clauses (suc i) qs) (same-says (zero-law (s i))) (zero-says s (suc i) qs)
+one-law : (b : Bool) → ((b || false) && true) ≡ Bool·beq b true
+one-law true = refl
+one-law false = refl
+
+-- where a latch starts, and where all do
+start-says : (s : State) (i : ℕ) (from : Start) → (all-hold s (start-clause i from) ≡ true) ↔ StartsWith from (s i)
+unfolding start-clause all-hold all holds any is-true
+start-says s i at-0 = same-says (zero-law (s i))
+start-says s i at-1 = same-says (one-law (s i))
+start-says s i at-either = (λ h. tt, λ h. refl)
+
+starts-say : (s : State) (i : ℕ) (qs : List Latch) → (all-hold s (start-clauses i qs) ≡ true) ↔ AllStart s i qs
+unfolding start-clauses all-hold all
+starts-say s i [] = (λ h. tt, λ h. refl)
+starts-say s i (q ∷ qs) =
+    append-says s (start-clause i (q .start)) (start-clauses (suc i) qs) (start-says s i (q .start)) (starts-say s (suc i) qs)
 
 -- ---- values that agree
 
@@ -131,6 +142,21 @@ module _ (c : Circuit) (sane : Sane c) where
         ∙ cc (next-is i (omega arith), edge-is (q .next) (sane .next-known q (part q (inl refl))))))
         (latches-say t next-is (suc i) qs (omega arith) (omega arith) (λ p j. part p (inr j)))
 
+    -- a clause for each of some literals: all of them are 1
+    one-says : (l : ℕ) → known c (var l) ≡ true → (all-hold w (clause-if (edge c l ∷ [])) ≡ true) ↔ (value v l ≡ true)
+    unfolding any
+    one-says l known-l =
+        let is : all-hold w (clause-if (edge c l ∷ [])) ≡ value v l =
+        clause-if-holds w (edge c l ∷ []) ∙ or-false (edge-true w (edge c l)) ∙ edge-is l known-l in
+        (λ h. sym is ∙ h, λ h. is ∙ h)
+
+    ones-say : (ls : List ℕ) → ((l : ℕ) → In l ls → known c (var l) ≡ true) → (all-hold w (one-clauses c ls) ≡ true) ↔ AllOne v ls
+    unfolding one-clauses all-hold all
+    ones-say [] are-known = (λ h. tt, λ h. refl)
+    ones-say (l ∷ ls) are-known =
+        append-says w (clause-if (edge c l ∷ [])) (one-clauses c ls) (one-says l (are-known l (inl refl)))
+        (ones-say ls (λ k i. are-known k (inr i)))
+
   -- ---- from a circuit's values to helpers, and back
 
   worth-agrees : (s t : State) (x v : Values) → Worth c s x v → Agrees c v (moment (n-of c) s t (helper-values c v))
@@ -181,58 +207,54 @@ module _ (c : Circuit) (sane : Sane c) where
   -- ---- what Tr says, and what Bad says
 
   tr-says : (v : Values) (s t : State) (x : Values) → Agrees c v (moment (n-of c) s t x)
-      → (all-hold (moment (n-of c) s t x) (gates-clauses c (c .gates) ++ latches-clauses c 1 (c .latches)) ≡ true)
-      ↔ (GatesAre v (c .gates) × AllNext v t 1 (c .latches))
+      → (all-hold (moment (n-of c) s t x)
+      (gates-clauses c (c .gates) ++ (latches-clauses c 1 (c .latches) ++ one-clauses c (c .constraints))) ≡ true)
+      ↔ (GatesAre v (c .gates) × (AllNext v t 1 (c .latches) × AllOne v (c .constraints)))
   tr-says v s t x agrees =
       let w : Values = moment (n-of c) s t x in
-      append-says w (gates-clauses c (c .gates)) (latches-clauses c 1 (c .latches)) (gates-say v w agrees (c .gates) (λ g i. i))
+      append-says w (gates-clauses c (c .gates)) (latches-clauses c 1 (c .latches) ++ one-clauses c (c .constraints))
+      (gates-say v w agrees (c .gates) (λ g i. i))
+      (append-says w (latches-clauses c 1 (c .latches)) (one-clauses c (c .constraints))
       (latches-say v w agrees t (moment-next (n-of c) s t x) 1 (c .latches) (omega arith) (unfold n-of in omega arith) (λ q i. i))
+      (ones-say v w agrees (c .constraints) (sane .constraint-known)))
 
-  module _ (output-known : known c (var (output c)) ≡ true) where
-    output-says : (v w : Values) → Agrees c v w → (all-hold w (clause-if (edge c (output c) ∷ [])) ≡ true) ↔ (value v (output c) ≡ true)
-    unfolding any
-    output-says v w agrees =
-        let is : all-hold w (clause-if (edge c (output c) ∷ [])) ≡ value v (output c) =
-        clause-if-holds w (edge c (output c) ∷ []) ∙ or-false (edge-true w (edge c (output c)))
-        ∙ edge-is v w agrees (output c) output-known in
-        (λ h. sym is ∙ h, λ h. is ∙ h)
-
-    bad-says : (v : Values) (s : State) (x : Values) → Agrees c v (moment (n-of c) s s x)
-        → (all-hold (moment (n-of c) s s x) (gates-clauses c (c .gates) ++ clause-if (edge c (output c) ∷ [])) ≡ true)
-        ↔ (GatesAre v (c .gates) × (value v (output c) ≡ true))
-    bad-says v s x agrees =
-        let w : Values = moment (n-of c) s s x in
-        append-says w (gates-clauses c (c .gates)) (clause-if (edge c (output c) ∷ [])) (gates-say v w agrees (c .gates) (λ g i. i))
-        (output-says v w agrees)
+  bad-says : known c (var (bad-literal c)) ≡ true → (v : Values) (s : State) (x : Values) → Agrees c v (moment (n-of c) s s x)
+      → (all-hold (moment (n-of c) s s x) (gates-clauses c (c .gates) ++ one-clauses c (bad-literal c ∷ c .constraints)) ≡ true)
+      ↔ (GatesAre v (c .gates) × AllOne v (bad-literal c ∷ c .constraints))
+  bad-says bad-known v s x agrees =
+      let w : Values = moment (n-of c) s s x in
+      append-says w (gates-clauses c (c .gates)) (one-clauses c (bad-literal c ∷ c .constraints))
+      (gates-say v w agrees (c .gates) (λ g i. i))
+      (ones-say v w agrees (bad-literal c ∷ c .constraints) (bad-or-constraint c sane bad-known))
 
   -- ---- the problem built
 
   module _ (lemmas : List Clause) where
     pub same-start : (s : State) → StartState c s ↔ InitState (built c lemmas) s
     unfolding built
-    same-start s = let says = zero-says s 1 (c .latches) in (says .1, says .0)
+    same-start s = let says = starts-say s 1 (c .latches) in (says .1, says .0)
 
     pub same-step : (s t : State) → NextState c s t ↔ Step (built c lemmas) s t
     unfolding built
     same-step s t = (
-      λ (x, v, worth, next).
+      λ (x, v, worth, next, ones).
           let h = helper-values c v in
-          (h, tr-says v s t h (worth-agrees s t x v worth) .1 (worth .gates, next)),
+          (h, tr-says v s t h (worth-agrees s t x v worth) .1 (worth .gates, (next, ones))),
       λ (x, h).
           let w : Values = moment (n-of c) s t x in
           let says = tr-says (values-of c w) s t x (moment-agrees w) .0 h in
-          (x, values-of c w, moment-worth s t x (says .0), says .1),
+          (x, values-of c w, moment-worth s t x (says .0), says .1 .0, says .1 .1),
     )
 
-    pub same-bad : known c (var (output c)) ≡ true → (s : State) → OutputCanBe1 c s ↔ BadState (built c lemmas) s
+    pub same-bad : known c (var (bad-literal c)) ≡ true → (s : State) → CanBeBad c s ↔ BadState (built c lemmas) s
     unfolding built
-    same-bad output-known s = (
-      λ (x, v, worth, is-1).
+    same-bad bad-known s = (
+      λ (x, v, worth, ones).
           let h = helper-values c v in
-          (h, bad-says output-known v s h (worth-agrees s s x v worth) .1 (worth .gates, is-1)),
+          (h, bad-says bad-known v s h (worth-agrees s s x v worth) .1 (worth .gates, ones)),
       λ (x, h).
           let w : Values = moment (n-of c) s s x in
-          let says = bad-says output-known (values-of c w) s x (moment-agrees w) .0 h in
+          let says = bad-says bad-known (values-of c w) s x (moment-agrees w) .0 h in
           (x, values-of c w, moment-worth s s x (says .0), says .1),
     )
 

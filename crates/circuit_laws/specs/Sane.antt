@@ -19,4 +19,6 @@ pub record Sane (c : Circuit) : Type 0 where
   pub even : (g : Gate) → In g (c .gates) → negated (g .lit) ≡ false
   pub next-known : (q : Latch) → In q (c .latches) → known c (var (q .next)) ≡ true
   pub output-known : (l : ℕ) → In l (c .outputs) → known c (var l) ≡ true
+  pub bad-known : (l : ℕ) → In l (c .bads) → known c (var l) ≡ true
+  pub constraint-known : (l : ℕ) → In l (c .constraints) → known c (var l) ≡ true
   pub works : (g : Gate) → In g (c .gates) → gate-works c g ≡ true

@@ -1,14 +1,15 @@
--- The header as the code finds it: 'aag', a space, and a line of five numbers from there on.
+-- The header as the code finds it: 'aag', a space, and a line of five to nine numbers from there on.
 use Prim.Native.Nat.{ℕ, zero, suc, _+_, _≤_, _<_}
 use native.Mathlib.Omega.{arith}
 use mathlib.Core.Path.{_≡_, refl, sym, ap, subst, _∙_}
 use mathlib.Core.Logic.{_⊎_, inl, inr}
 use mathlib.Core.Bool.{Bool, true, false, not, _&&_, cond, true≢false}
 use mathlib.Core.List.{List, [], _∷_, _++_, map}
-use lib.ListN.{length, getD, drop, List·getD-map}
+use lib.ListN.{length, getD, drop, length-map, List·getD-map}
 use lib.Dec.{ltb, leb, eqb, leb·suc-suc}
-use borrow.Author.Tests.{eqb-true, eqb-false, eq-eqb, ne-eqb, leb-true, le-leb, lt-leb}
+use borrow.Author.Tests.{eqb-true, eqb-false, eq-eqb, ne-eqb, ltb-true, ltb-false, leb-true, le-leb, lt-leb}
 use Rattle.meaning.specs.Clauses.{all}
+use Rattle.meaning.specs.File.{between}
 use Rattle.meaning.specs.Lines.{newline, space, until, line-at, ended, next-line, with-first, words, is-number, decimal, decimal-on, of-numbers}
 use Rattle.meaning.specs.CircuitText
 use Rattle.meaning.specs.CircuitText.{aag, same-bytes, number-in, header-of, header-right, numbers-at}
@@ -17,7 +18,9 @@ use Rattle.lines.specs.declared.number.Number.{Number}
 use Rattle.lines.specs.Numbers.{worth, Stands}
 use Rattle.lines.specs.Past.{line-past, line-byte, ended-byte, next-byte, first-word}
 use Rattle.lines.specs.Order.{order, order-cases, order-less, order-same, order-more}
-use Rattle.sections.specs.LineOf.{past-zero, past-some}
+use Rattle.lines.specs.Literals.{nothing-stands, nothing-worth}
+use Rattle.sections.specs.Split.{numbers-count, numbers-all}
+use Rattle.sections.specs.LineOf.{past-zero, past-some, getD-past}
 use Rattle.circuit_text.specs.declared.header.Header.{Header}
 
 -- the text starts with 'aag' and a space
@@ -29,6 +32,22 @@ starts text =
 unfoldable pub header-test : List ℕ → Bool
 header-test text = ended text 0 && header-right (line-at text 0)
 
+-- the numbers of a header where they stand, as the definition has them
+unfoldable pub header-at : List ℕ → Header → CircuitText.Header
+header-at text h =
+    record {
+      m = worth text (h .m);
+      i = worth text (h .i);
+      l = worth text (h .l);
+      o = worth text (h .o);
+      a = worth text (h .a);
+      b = worth text (h .b);
+      c = worth text (h .c);
+      j = worth text (h .j);
+      f = worth text (h .f);
+      newer = h .newer;
+    }
+
 -- the header, with its numbers where they stand
 pub record Parts (text : List ℕ) (h : Header) : Type 0 where
   pub next-is : h .next ≡ next-line text 0
@@ -38,8 +57,11 @@ pub record Parts (text : List ℕ) (h : Header) : Type 0 where
   pub l : Stands text (h .l)
   pub o : Stands text (h .o)
   pub a : Stands text (h .a)
-  pub worths : record { m = worth text (h .m); i = worth text (h .i); l = worth text (h .l); o = worth text (h .o); a = worth text (h .a) }
-      ≡ header-of (line-at text 0)
+  pub b : Stands text (h .b)
+  pub c : Stands text (h .c)
+  pub j : Stands text (h .j)
+  pub f : Stands text (h .f)
+  pub worths : header-at text h ≡ header-of (line-at text 0)
 
 pub record HeaderIs (text : List ℕ) (h : Header) : Type 0 where
   pub right : h .right ≡ header-test text
@@ -102,29 +124,32 @@ long-enough : (more : List ℕ) → leb 4 (length (97 ∷ 97 ∷ 103 ∷ space �
 long-enough more = le-leb 4 (suc (suc (suc (suc (length more))))) (omega arith)
 
 header-starts : (text : List ℕ) → header-test text ≡ true → starts text ≡ true
-unfolding header-test header-right starts line-at
+unfolding header-test header-right starts line-at between
 header-starts text h = by-words (words (line-at text 0)) refl six first
   where
     right : header-right (line-at text 0) ≡ true
     right = and-right (ended text 0) (header-right (line-at text 0)) h
 
-    three : ((eqb (length (words (line-at text 0))) 6 && same-bytes (getD (words (line-at text 0)) 0 []) aag)
+    three : ((between 6 10 (length (words (line-at text 0))) && same-bytes (getD (words (line-at text 0)) 0 []) aag)
         && all is-number (drop 1 (words (line-at text 0)))) ≡ true
     three = and-left _ _ right
 
-    two : (eqb (length (words (line-at text 0))) 6 && same-bytes (getD (words (line-at text 0)) 0 []) aag) ≡ true
+    two : (between 6 10 (length (words (line-at text 0))) && same-bytes (getD (words (line-at text 0)) 0 []) aag) ≡ true
     two = and-left _ (all is-number (drop 1 (words (line-at text 0)))) three
 
-    six : length (words (line-at text 0)) ≡ 6
-    six = eqb-true _ 6 (and-left (eqb (length (words (line-at text 0))) 6) _ two)
+    range : between 6 10 (length (words (line-at text 0))) ≡ true
+    range = and-left (between 6 10 (length (words (line-at text 0)))) _ two
+
+    six : 6 ≤ length (words (line-at text 0))
+    six = leb-true 6 _ (and-left (leb 6 (length (words (line-at text 0)))) _ range)
 
     first : getD (words (line-at text 0)) 0 [] ≡ aag
-    first = same-is _ aag (and-right (eqb (length (words (line-at text 0))) 6) _ two)
+    first = same-is _ aag (and-right (between 6 10 (length (words (line-at text 0)))) _ two)
 
     by-bytes : (more : List ℕ) → text ≡ (97 ∷ 97 ∷ 103 ∷ space ∷ more) → starts text ≡ true
     by-bytes more is = ap starts is ∙ rw (long-enough more)
 
-    by-words : (ws : List (List ℕ)) → words (line-at text 0) ≡ ws → length ws ≡ 6 → getD ws 0 [] ≡ aag → starts text ≡ true
+    by-words : (ws : List (List ℕ)) → words (line-at text 0) ≡ ws → 6 ≤ length ws → getD ws 0 [] ≡ aag → starts text ≡ true
     by-words [] e six first = absurd (omega (arith, six))
     by-words (w ∷ []) e six first = absurd (omega (arith, six))
     by-words (w ∷ v ∷ ws) e six first =
@@ -136,7 +161,7 @@ header-starts text h = by-words (words (line-at text 0)) refl six first
 pub not-starts : (text : List ℕ) → starts text ≡ false → false ≡ header-test text
 not-starts text no-start = sym (not-true-is-false (λ h. true≢false (sym (header-starts text h) ∙ no-start)))
 
--- ---- where it does, the rest of the line is five numbers
+-- ---- where it does, the rest of the line is five to nine numbers
 
 pub eqb-suc : (a b : ℕ) → eqb (suc a) (suc b) ≡ eqb a b
 eqb-suc a b = go (bool-cases (eqb a b))
@@ -202,37 +227,118 @@ module _ (text : List ℕ) (start : starts text ≡ true) where
   unfolding words with-first
   words-are = ap words line-is
 
+  -- how many words there are, past the first
+  range-is : between 6 10 (length (words (line-at text 0))) ≡ between 5 9 (length (words (line-at text 4)))
+  unfolding between
+  range-is =
+      ap (λ (ws : List (List ℕ)). leb 6 (length ws) && leb (length ws) 10) words-are
+      ∙ cc (leb·suc-suc 5 (length (words (line-at text 4))), leb·suc-suc (length (words (line-at text 4))) 9)
+
   pub test-is : header-test text
-      ≡ ((ended text 4 && of-numbers 5 (line-at text 4))
+      ≡ ((ended text 4 && (between 5 9 (length (words (line-at text 4))) && all is-number (words (line-at text 4))))
       && leb (header-of (line-at text 0) .i + header-of (line-at text 0) .l + header-of (line-at text 0) .a) (header-of (line-at text 0) .m))
-  unfolding header-test header-right of-numbers same-bytes
+  unfolding header-test header-right same-bytes
   test-is =
-      rw (ended-is, words-are, eqb-suc (length (words (line-at text 4))) 5)
-      (shuffle (ended text 4) (eqb (length (words (line-at text 4))) 5) (all is-number (words (line-at text 4))) _)
+      rw (ended-is, range-is, words-are)
+      (shuffle (ended text 4) (between 5 9 (length (words (line-at text 4)))) (all is-number (words (line-at text 4))) _)
     where
       shuffle : (e a b c : Bool) → (e && (((a && true) && b) && c)) ≡ ((e && (a && b)) && c)
       shuffle true true b c = refl
       shuffle true false b c = refl
       shuffle false a b c = refl
 
-  -- the five numbers
-  number-is : (j : ℕ) → number-in (line-at text 0) (suc j) ≡ getD (numbers-at text 4) j 0
+  -- its numbers
+  pub number-is : (j : ℕ) → number-in (line-at text 0) (suc j) ≡ getD (numbers-at text 4) j 0
   unfolding number-in numbers-at decimal decimal-on
   number-is j =
       ap (λ (ws : List (List ℕ)). decimal (getD ws (suc j) [])) words-are
       ∙ sym (List·getD-map decimal (words (line-at text 4)) j [])
 
-  pub header-is : (m i l o a : ℕ) → m ≡ getD (numbers-at text 4) 0 0 → i ≡ getD (numbers-at text 4) 1 0 → l ≡ getD (numbers-at text 4) 2 0
-      → o ≡ getD (numbers-at text 4) 3 0 → a ≡ getD (numbers-at text 4) 4 0
-      → record { m = m; i = i; l = l; o = o; a = a } ≡ header-of (line-at text 0)
-  unfolding header-of
-  header-is m i l o a em ei el eo ea =
-      let fm = em ∙ sym (number-is 0) in
-      let fi = ei ∙ sym (number-is 1) in
-      let fl = el ∙ sym (number-is 2) in
-      let fo = eo ∙ sym (number-is 3) in
-      let fa = ea ∙ sym (number-is 4) in
-      λ k. record { m = fm k; i = fi k; l = fl k; o = fo k; a = fa k }
+  -- six or more are edition 1.9
+  pub newer-is : (width : ℕ) → of-numbers width (line-at text 4) ≡ true → ltb 5 width ≡ ltb 6 (length (words (line-at text 0)))
+  newer-is width n =
+      ap (ltb 5) (sym (numbers-count width (line-at text 4) n)) ∙ sym (leb·suc-suc 6 (length (words (line-at text 4))))
+      ∙ ap (λ (ws : List (List ℕ)). ltb 6 (length ws)) (sym words-are)
+
+-- ---- how many numbers, and each of them
+
+-- so many numbers follow 'aag' and its space; 0 where there are not five to nine
+pub record WidthIs (text : List ℕ) (r : ℕ) : Type 0 where
+  pub none : r ≡ 0 → (ended text 4 && (between 5 9 (length (words (line-at text 4))) && all is-number (words (line-at text 4)))) ≡ false
+  pub closed : (r ≡ 0 → ⊥) → ended text 4 ≡ true
+  pub numbers : (r ≡ 0 → ⊥) → of-numbers r (line-at text 4) ≡ true
+  pub few : r ≤ 9
+  pub least : (r ≡ 0 → ⊥) → 5 ≤ r
+
+-- they are not so many, for each number from 5 on that was tried
+abbrev pub Tried : List ℕ → ℕ → Type 0
+Tried text width = (k : ℕ) → 5 ≤ k → k < width → (ended text 4 && of-numbers k (line-at text 4)) ≡ false
+
+pub tried-more : (text : List ℕ) (width r : ℕ) → r ≡ line-past width text 4 → r ≡ 0 → Tried text width → Tried text (width + 1)
+tried-more text width r is z tried k low high = go (bool-cases (ltb k width))
+  where
+    go : (ltb k width ≡ true) ⊎ (ltb k width ≡ false) → (ended text 4 && of-numbers k (line-at text 4)) ≡ false
+    go (inl t) = tried k low (ltb-true k width t)
+    go (inr t) =
+        let same : k ≡ width = omega (arith, ltb-false k width t) in
+        subst (λ (w : ℕ). (ended text 4 && of-numbers w (line-at text 4)) ≡ false) (sym same) (past-zero width text 4 r is z)
+
+pub width-found : (text : List ℕ) (width r : ℕ) → r ≡ line-past width text 4 → (r ≡ 0 → ⊥) → 5 ≤ width → width < 10 → WidthIs text width
+width-found text width r is some low high =
+    let facts = past-some width text 4 r is some in
+    record {
+      none = λ z. absurd (omega (arith, z));
+      closed = λ more. facts .0;
+      numbers = λ more. facts .1;
+      few = omega arith;
+      least = λ more. low;
+    }
+
+pub width-none : (text : List ℕ) (width : ℕ) → (width < 10 → ⊥) → Tried text width → WidthIs text 0
+unfolding of-numbers between
+width-none text width past tried =
+    record {
+      none = λ z. go (bool-cases (leb 5 count)) (bool-cases (leb count 9));
+      closed = λ some. absurd (some refl);
+      numbers = λ some. absurd (some refl);
+      few = omega arith;
+      least = λ some. absurd (some refl);
+    }
+  where
+    count : ℕ
+    count = length (words (line-at text 4))
+
+    Not : Type 0
+    Not = (ended text 4 && ((leb 5 count && leb count 9) && all is-number (words (line-at text 4)))) ≡ false
+
+    nothing : (e : Bool) → (e && false) ≡ false
+    nothing true = refl
+    nothing false = refl
+
+    go : (leb 5 count ≡ true) ⊎ (leb 5 count ≡ false) → (leb count 9 ≡ true) ⊎ (leb count 9 ≡ false) → Not
+    go (inr t) s = rw t (nothing (ended text 4))
+    go (inl t) (inr s) = rw (t, s) (nothing (ended text 4))
+    go (inl t) (inl s) =
+        let not-so = tried count (leb-true 5 count t) (omega (arith, leb-true count 9 s)) in
+        rw (t, s) (sym (ap (λ (b : Bool). ended text 4 && (b && all is-number (words (line-at text 4)))) (eq-eqb count count refl)) ∙ not-so)
+
+-- x is number j after 'aag' and its space
+pub record NumberIs (text : List ℕ) (j : ℕ) (x : Number) : Type 0 where
+  pub stands : Stands text x
+  pub is : worth text x ≡ getD (numbers-at text 4) j 0
+
+pub number-left-out : (text : List ℕ) (width j : ℕ) → 4 ≤ length text → of-numbers width (line-at text 4) ≡ true → width ≤ j
+    → NumberIs text j (record { start = 4; end = 4; value = 0 })
+unfolding numbers-at
+number-left-out text width j four n past =
+    record {
+      stands = nothing-stands text 4 four;
+      is =
+          nothing-worth text 4
+          ∙ sym
+          (getD-past (map decimal (words (line-at text 4))) j
+          (omega (arith, numbers-count width (line-at text 4) n, length-map (words (line-at text 4)) decimal)));
+    }
 
 -- the order of a sum and a number says whether it is at most that
 pub at-most : (s m r : ℕ) → r ≡ order (s + 0) m → not (eqb r 2) ≡ leb s m
@@ -249,36 +355,78 @@ pub header-wrong : (text : List ℕ) (h : Header) → h .right ≡ false → fal
 header-wrong text h no-right is =
     record { right = no-right ∙ is; parts = λ e. absurd (true≢false (sym e ∙ no-right)) }
 
-module _ (text : List ℕ) (start : starts text ≡ true) (r : ℕ) (r-is : r ≡ line-past 5 text 4) where
-  pub not-numbers : r ≡ 0 → false ≡ header-test text
-  not-numbers e = sym (test-is text start ∙ rw (past-zero 5 text 4 r r-is e))
+module _ (text : List ℕ) (start : starts text ≡ true) (width : ℕ) (is : WidthIs text width) where
+  pub not-numbers : width ≡ 0 → false ≡ header-test text
+  not-numbers e = sym (test-is text start ∙ rw (is .none e))
 
-  module _ (some : r ≡ 0 → ⊥) where
-    pub five : (ended text 4 ≡ true) × (of-numbers 5 (line-at text 4) ≡ true) × (r ≡ next-line text 4)
-    five = past-some 5 text 4 r r-is some
+  module _ (some : width ≡ 0 → ⊥) (m i l o a b c j f : Number) (em : NumberIs text 0 m) (ei : NumberIs text 1 i) (el : NumberIs text 2 l)
+      (eo : NumberIs text 3 o) (ea : NumberIs text 4 a) (eb : NumberIs text 5 b) (ec : NumberIs text 6 c) (ej : NumberIs text 7 j)
+      (ef : NumberIs text 8 f) (next : ℕ) (right : Bool) where
+    abbrev made : Header
+    made =
+        record {
+          right = right;
+          next = next;
+          newer = ltb 5 width;
+          m = m;
+          i = i;
+          l = l;
+          o = o;
+          a = a;
+          b = b;
+          c = c;
+          j = j;
+          f = f;
+        }
 
-    pub header-made : (m i l o a : Number) → Stands text m → Stands text i → Stands text l → Stands text o → Stands text a
-        → worth text m ≡ getD (numbers-at text 4) 0 0 → worth text i ≡ getD (numbers-at text 4) 1 0
-        → worth text l ≡ getD (numbers-at text 4) 2 0 → worth text o ≡ getD (numbers-at text 4) 3 0
-        → worth text a ≡ getD (numbers-at text 4) 4 0 → r ≤ length text → (q : ℕ)
-        → q ≡ order (worth text i + worth text l + worth text a + 0) (worth text m)
-        → HeaderIs text (record { right = not (eqb q 2); next = r; m = m; i = i; l = l; o = o; a = a })
-    header-made m i l o a sm si sl so sa em ei el eo ea inside q q-is =
-        let worths = header-is text start (worth text m) (worth text i) (worth text l) (worth text o) (worth text a) em ei el eo ea in
+    worths-are : header-at text made ≡ header-of (line-at text 0)
+    unfolding header-at header-of
+    worths-are =
+        let fm = em .is ∙ sym (number-is text start 0) in
+        let fi = ei .is ∙ sym (number-is text start 1) in
+        let fl = el .is ∙ sym (number-is text start 2) in
+        let fo = eo .is ∙ sym (number-is text start 3) in
+        let fa = ea .is ∙ sym (number-is text start 4) in
+        let fb = eb .is ∙ sym (number-is text start 5) in
+        let fc = ec .is ∙ sym (number-is text start 6) in
+        let fj = ej .is ∙ sym (number-is text start 7) in
+        let ff = ef .is ∙ sym (number-is text start 8) in
+        let fn = newer-is text start width (is .numbers some) in
+        λ k. record { m = fm k; i = fi k; l = fl k; o = fo k; a = fa k; b = fb k; c = fc k; j = fj k; f = ff k; newer = fn k }
+
+    five-to-nine : (between 5 9 (length (words (line-at text 4))) && all is-number (words (line-at text 4))) ≡ true
+    unfolding between
+    five-to-nine =
+        let ws = words (line-at text 4) in
+        let count = numbers-count width (line-at text 4) (is .numbers some) in
+        and-both (leb 5 (length ws) && leb (length ws) 9) (all is-number ws)
+        (and-both (leb 5 (length ws)) (leb (length ws) 9) (le-leb 5 (length ws) (omega (arith, count, is .least some)))
+        (le-leb (length ws) 9 (omega (arith, count, is .few))))
+        (numbers-all width (line-at text 4) (is .numbers some))
+
+    pub header-made : next ≡ next-line text 4 → next ≤ length text → (q : ℕ)
+        → q ≡ order (worth text i + worth text l + worth text a + 0) (worth text m) → right ≡ not (eqb q 2) → HeaderIs text made
+    unfolding header-at
+    header-made next-at inside q q-is right-is =
         record {
           right =
-              at-most (worth text i + worth text l + worth text a) (worth text m) q q-is
-              ∙ ap (λ (h : CircuitText.Header). leb (h .i + h .l + h .a) (h .m)) worths
-              ∙ sym (test-is text start ∙ rw (five .0, five .1));
+              right-is
+              ∙ at-most (worth text i + worth text l + worth text a) (worth text m) q q-is
+              ∙ ap (λ (h : CircuitText.Header). leb (h .i + h .l + h .a) (h .m)) worths-are
+              ∙ sym (test-is text start ∙ rw (is .closed some, five-to-nine));
           parts = λ e.
               record {
-                next-is = five .2 ∙ sym (next-is text start);
+                next-is = next-at ∙ sym (next-is text start);
                 next-in = inside;
-                m = sm;
-                i = si;
-                l = sl;
-                o = so;
-                a = sa;
-                worths = worths;
+                m = em .stands;
+                i = ei .stands;
+                l = el .stands;
+                o = eo .stands;
+                a = ea .stands;
+                b = eb .stands;
+                c = ec .stands;
+                j = ej .stands;
+                f = ef .stands;
+                worths = worths-are;
               };
         }

@@ -16,10 +16,10 @@ use Rattle.sections.specs.declared.read.Ended.{Ended}
 use Rattle.sections.specs.Whole.{sections-of, circuit-at, Whole, rows-few}
 use Rattle.uses.specs.Passing.{fault-of}
 use Rattle.circuit_text.specs.declared.header.Header.{Header}
-use Rattle.circuit_text.specs.Header.{Parts, HeaderIs, header-test}
+use Rattle.circuit_text.specs.Header.{Parts, HeaderIs, header-test, header-at}
 use Rattle.circuit_text.specs.declared.read.Found.{Found}
 use Rattle.circuit_text.specs.declared.read.Found.the-variants
-use Rattle.circuit_text.specs.Read.{header-at, Lined, LinesRead, UsesRead, TextRead}
+use Rattle.circuit_text.specs.Read.{Lined, LinesRead, UsesRead, TextRead}
 
 uses-none : (o : Option ℕ) (on : Text) (r : Ended) → r ≡ fault-of o → r .fault ≡ false → on-none o on ≡ on
 unfolding fault-of on-none

@@ -4,14 +4,18 @@ ghost use mathlib.Core.Bool.{true};
 ghost use Prim.Native.Nat.{_≤_};
 ghost use lib.ListN.{length};
 ghost use Rattle.circuit_text.specs.Header.{Parts};
-ghost use Rattle.circuit_text.specs.Read.{LinesRead, UsesRead, TextRead};
+ghost use Rattle.circuit_text.specs.Properties.{Counted};
+ghost use Rattle.circuit_text.specs.Read.{GatesRead, LinesRead, UsesRead, TextRead};
+ghost use Rattle.sections.specs.Lists.{Placed};
 ghost use Rattle.sections.specs.Whole.{Whole, «circuit-at»};
 ghost use Rattle.uses.specs.Stuck.{Distinct};
 ghost use Rattle.circuit_text.specs.Stages.{«word-most»};
 use crate::header::Header;
 use crate::header::read_header;
-use lines::number::Number;
+use crate::properties::Between;
+use crate::properties::read_properties;
 use sections::circuit::Circuit;
+use sections::circuit::Properties;
 use sections::find::Lines;
 use sections::line::Form;
 use sections::read::read_section;
@@ -25,6 +29,64 @@ pub enum Found {
     Whole(Circuit),
 }
 
+// The gates and the symbols, after the lines that are read.
+fn read_gates(
+    text: &[u8],
+    h: Header,
+    judged: bool,
+    inputs: Lines,
+    latches: Lines,
+    properties: Properties,
+    at: usize,
+) -> Found
+    requires { ⌜ Parts (now text) h ⌝ }
+    requires { ⌜ length (now text) ≤ «word-most» ⌝ }
+    requires { ⌜ at ≤ length (now text) ⌝ }
+    requires { ⌜ Placed (now text) inputs ⌝ }
+    requires { ⌜ Placed (now text) latches ⌝ }
+    requires { ⌜ Counted (now text) h ⌝ }
+    ensures { λ r. ⌜ GatesRead (now (text .entry)) h judged inputs latches properties at r ⌝ }
+{
+    let a = h.a;
+    let m = h.m;
+    let form = Form {
+        width: 3,
+        defines: true,
+        starts: false,
+        counts: false,
+    };
+    let last = read_section(text, at, a.value, form, judged, m, inputs, latches);
+    if last.fault {
+        return Found::Fault(last.at);
+    }
+    let i = h.i;
+    let l = h.l;
+    let o = h.o;
+    let b = h.b;
+    let c = h.c;
+    let j = h.j;
+    let f = h.f;
+    let counts = Counts {
+        i: i.value,
+        l: l.value,
+        o: o.value,
+        b: b.value,
+        c: c.value,
+        j: j.value,
+        f: f.value,
+    };
+    let s = symbols_fault(text, counts, judged, last.at);
+    if s.found {
+        return Found::Fault(s.at);
+    }
+    Found::Whole(Circuit {
+        inputs,
+        latches,
+        properties,
+        gates: Lines { at, count: a.value },
+    })
+}
+
 // The lines after the header.
 fn read_lines(text: &[u8], h: Header, judged: bool) -> Found
     requires { ⌜ Parts (now text) h ⌝ }
@@ -34,40 +96,26 @@ fn read_lines(text: &[u8], h: Header, judged: bool) -> Found
     let m = h.m;
     let i = h.i;
     let l = h.l;
-    let o = h.o;
-    let a = h.a;
     let at = h.next;
     let none = Lines { at: 0, count: 0 };
-    let first = read_section(
-        text,
-        at,
-        i,
-        Form {
-            width: 1,
-            defines: true,
-        },
-        judged,
-        m,
-        none,
-        none,
-    );
+    let form = Form {
+        width: 1,
+        defines: true,
+        starts: false,
+        counts: false,
+    };
+    let first = read_section(text, at, i.value, form, judged, m, none, none);
     if first.fault {
         return Found::Fault(first.at);
     }
     let inputs = Lines { at, count: i.value };
-    let second = read_section(
-        text,
-        first.at,
-        l,
-        Form {
-            width: 2,
-            defines: true,
-        },
-        judged,
-        m,
-        inputs,
-        none,
-    );
+    let latch_form = Form {
+        width: 2,
+        defines: true,
+        starts: h.newer,
+        counts: false,
+    };
+    let second = read_section(text, first.at, l.value, latch_form, judged, m, inputs, none);
     if second.fault {
         return Found::Fault(second.at);
     }
@@ -75,65 +123,19 @@ fn read_lines(text: &[u8], h: Header, judged: bool) -> Found
         at: first.at,
         count: l.value,
     };
-    let third = read_section(
-        text,
-        second.at,
-        o,
-        Form {
-            width: 1,
-            defines: false,
-        },
-        judged,
-        m,
-        none,
-        none,
-    );
-    if third.fault {
-        return Found::Fault(third.at);
+    let between = read_properties(text, h, judged, second.at);
+    match between {
+        Between::Fault(place) => Found::Fault(place),
+        Between::Lines(properties, next) => read_gates(
+            text,
+            h,
+            judged,
+            inputs,
+            latches,
+            properties,
+            next,
+        ),
     }
-    let outputs = Lines {
-        at: second.at,
-        count: o.value,
-    };
-    let fourth = read_section(
-        text,
-        third.at,
-        a,
-        Form {
-            width: 3,
-            defines: true,
-        },
-        judged,
-        m,
-        inputs,
-        latches,
-    );
-    if fourth.fault {
-        return Found::Fault(fourth.at);
-    }
-    let gates = Lines {
-        at: third.at,
-        count: a.value,
-    };
-    let s = symbols_fault(
-        text,
-        Counts {
-            i: i.value,
-            l: l.value,
-            o: o.value,
-        },
-        judged,
-        fourth.at,
-    );
-    if s.found {
-        return Found::Fault(s.at);
-    }
-    Found::Whole(Circuit {
-        inputs,
-        latches,
-        outputs,
-        gates,
-    })
 }
 
 // What the lines use, as far as that is judged.

@@ -2,10 +2,12 @@
 use Prim.Native.Nat.{ℕ, zero, suc, _+_, _≤_, _<_}
 use native.Mathlib.Omega.{arith}
 use mathlib.Core.Path.{_≡_, refl, sym, ap, subst, _∙_}
-use mathlib.Core.Bool.{Bool, true, false, cond, true≢false}
+use mathlib.Core.Bool.{Bool, true, false, _||_, cond, true≢false}
 use mathlib.Core.List.{List, [], _∷_, _++_}
 use lib.ListN.{length, take, drop, length-append}
 use lib.Seq.{take-append-seam}
+use lib.Dec.{ltb}
+use borrow.Author.Tests.{lt-ltb, le-ltb}
 use Rattle.meaning.specs.Meaning.{Problem}
 use Rattle.meaning.specs.File.{Reading, accepted, rejected}
 use Rattle.meaning.specs.Filed.{file-of}
@@ -15,7 +17,7 @@ use Rattle.meaning.specs.Built.{built}
 use Rattle.meaning.specs.CircuitText
 use Rattle.meaning.specs.CircuitText.{read-circuit-text}
 use Rattle.meaning.specs.LemmaText
-use Rattle.meaning.specs.Circuits.{read-circuit, on-circuit, on-lemmas, over-limits, refusal-13, refusal-14}
+use Rattle.meaning.specs.Circuits.{read-circuit, on-circuit, on-lemmas, over-limits, has-liveness, clause-count, refusal-13, refusal-14, refusal-15}
 use Rattle.circuit_laws.specs.Limits.{in-limits}
 use Rattle.circuit_laws.specs.AcceptedTexts.{accepted-fits}
 use Rattle.records.specs.Put.{put}
@@ -25,11 +27,13 @@ use Rattle.circuit_text.specs.Read.{TextRead}
 use Rattle.lemma_text.specs.declared.Lemmas.{Lemmas}
 use Rattle.lemma_text.specs.Rest.{summary-of, lemmas-of, longest}
 use Rattle.sections.specs.declared.circuit.Circuit.{Circuit}
-use Rattle.sections.specs.Whole.{circuit-at, Whole, rows-few, latch-count, input-count, output-count, gate-count}
+use Rattle.sections.specs.Whole.{circuit-at, Whole, rows-few, latch-count, input-count, gate-count}
+use Rattle.clause_count.specs.Bad.{OneBad}
+use Rattle.clause_count.specs.Tally.{with-lemmas}
 use Rattle.built.specs.Edges.{Small}
 use Rattle.built.specs.Problem.{problem-of}
 use Rattle.circuits.specs.declared.limits.Counted.{Counted}
-use Rattle.circuits.specs.Limits.{over-counts, over-is, longest-within}
+use Rattle.circuits.specs.Limits.{over-counts, over-is, longest-within, one-within, text-within, lemmas-within, liveness, liveness-is}
 use Rattle.circuits.specs.declared.reading.Texts.{Texts}
 use Rattle.circuits.specs.declared.reading.Texts.the-variants as texts
 use Rattle.circuits.specs.declared.reading.Filed.{Filed}
@@ -39,7 +43,7 @@ use Rattle.circuits.specs.declared.reading.Filed.the-variants as filed
 pub record WithinLimits (text lemmas : List ℕ) (c : Circuit) : Type 0 where
   pub is : read-circuit text lemmas ≡ accepted (problem-of text c lemmas)
   pub small : Small text c
-  pub one : c .outputs .count ≡ 1
+  pub one : OneBad (c .properties)
   pub fine : summary-of (read-lemma-text (c .latches .count) lemmas) .fault ≡ false
   pub short : summary-of (read-lemma-text (c .latches .count) lemmas) .longest ≤ 64
 
@@ -53,7 +57,7 @@ pub record WrittenAs (text lemmas out : List ℕ) (len : ℕ) : Type 0 where
   pub is : read-circuit text lemmas ≡ accepted problem
   pub bytes : take len out ≡ file-of problem
   pub inside : len ≤ length out
-  pub most : len ≤ 35666
+  pub most : len ≤ 46220
 
 abbrev pub FiledAs : List ℕ → List ℕ → List ℕ → Filed → Type 0
 FiledAs text lemmas out (filed.Refused number place) = read-circuit text lemmas ≡ rejected (record { number = number; place = place })
@@ -91,7 +95,8 @@ module _ (text lemmas : List ℕ) (c : Circuit) (whole : Whole text c) (reads : 
           latches = c .latches .count;
           inputs = c .inputs .count;
           gates = c .gates .count;
-          outputs = c .outputs .count;
+          outputs = c .properties .outputs .count;
+          bads = c .properties .bads .count;
           lemmas = found .count;
           longest = found .longest;
         }
@@ -106,36 +111,67 @@ module _ (text lemmas : List ℕ) (c : Circuit) (whole : Whole text c) (reads : 
         go (LemmaText.wrong at) t is = absurd (true≢false (sym (ap (λ (x : Lemmas). x .fault) is) ∙ fine))
         go (LemmaText.right cs) t is = (cs, t, ap (λ (x : Lemmas). x .count) is, ap (λ (x : Lemmas). x .longest) is)
 
-    over-found : over-limits text lemmas (circuit-at text c) (right-is .0) ≡ over-counts counted
-    over-found = over-is text lemmas c (right-is .0) ∙ cc (right-is .2, right-is .3)
-
     on-right : read-circuit text lemmas
-        ≡ cond (over-limits text lemmas (circuit-at text c) (right-is .0)) refusal-14 (accepted (built (circuit-at text c) (right-is .0)))
+        ≡ cond (has-liveness (circuit-at text c)) refusal-15
+        (cond (over-limits text lemmas (circuit-at text c) (right-is .0)) refusal-14 (accepted (built (circuit-at text c) (right-is .0))))
     unfolding on-lemmas
     on-right = on-text ∙ ap (on-lemmas text lemmas (circuit-at text c)) (right-is .1)
 
-    module _ (b : Bool) (said : b ≡ over-counts counted) where
-      pub limits-over : b ≡ true → read-circuit text lemmas ≡ rejected (record { number = 14; place = 0 })
-      unfolding refusal-14
-      limits-over e = on-right ∙ rw (over-found ∙ sym said ∙ e)
+    module _ (live : Bool) (live-said : live ≡ liveness (c .properties)) where
+      pub liveness-wrong : live ≡ true → read-circuit text lemmas ≡ rejected (record { number = 15; place = 0 })
+      unfolding refusal-15
+      liveness-wrong e = on-right ∙ rw (liveness-is text c ∙ sym live-said ∙ e)
 
-      pub limits-kept : b ≡ false → WithinLimits text lemmas c
-      unfolding lemmas-of
-      limits-kept e =
-          let kept = in-limits text lemmas (circuit-at text c) (right-is .0) (over-found ∙ sym said ∙ e) in
-          record {
-            is = on-right ∙ rw (over-found ∙ sym said ∙ e) (ap (λ (l : LemmaText.Lemmas). accepted (built (circuit-at text c) (lemmas-of l))) (sym (right-is .1)));
-            small =
+      module _ (not-live : live ≡ false) (b : Bool) (said : b ≡ over-counts counted) where
+        -- over the limits, by counts and by clauses
+        over-found : (n : ℕ) → n ≡ clause-count (built (circuit-at text c) [])
+            → over-limits text lemmas (circuit-at text c) (right-is .0) ≡ (over-counts counted || ltb 4096 (n + found .count))
+        over-found n n-is =
+            over-is text lemmas c (right-is .0)
+            ∙ cc (right-is .2, right-is .3, with-lemmas (circuit-at text c) (right-is .0), n-is)
+
+        on-live : read-circuit text lemmas
+            ≡ cond (over-limits text lemmas (circuit-at text c) (right-is .0)) refusal-14 (accepted (built (circuit-at text c) (right-is .0)))
+        on-live = on-right ∙ rw (liveness-is text c ∙ sym live-said ∙ not-live)
+
+        pub limits-over : b ≡ true → read-circuit text lemmas ≡ rejected (record { number = 14; place = 0 })
+        unfolding refusal-14
+        limits-over e = on-live ∙ rw (over-found _ refl, sym said ∙ e)
+
+        module _ (kept : b ≡ false) where
+          pub one-kept : OneBad (c .properties)
+          one-kept = one-within counted (sym said ∙ kept)
+
+          pub text-kept : length text ≤ 65536
+          text-kept = text-within counted (sym said ∙ kept)
+
+          pub lemmas-kept : found .count ≤ 128
+          lemmas-kept = lemmas-within counted (sym said ∙ kept)
+
+          module _ (n : ℕ) (n-is : n ≡ clause-count (built (circuit-at text c) [])) where
+            pub clauses-over : 4096 < n + found .count → read-circuit text lemmas ≡ rejected (record { number = 14; place = 0 })
+            unfolding refusal-14
+            clauses-over more = on-live ∙ rw (over-found n n-is, sym said ∙ kept, lt-ltb 4096 (n + found .count) more)
+
+            within : n + found .count ≤ 4096 → over-limits text lemmas (circuit-at text c) (right-is .0) ≡ false
+            within few = over-found n n-is ∙ rw (sym said ∙ kept, le-ltb 4096 (n + found .count) few)
+
+            pub limits-kept : n + found .count ≤ 4096 → WithinLimits text lemmas c
+            unfolding lemmas-of
+            limits-kept few =
+                let limits = in-limits text lemmas (circuit-at text c) (right-is .0) (within few) in
                 record {
-                  whole = whole;
-                  latches = subst (λ (k : ℕ). k ≤ 96) (latch-count text c) (kept .latches-few);
-                  helpers = omega (arith, kept .helpers-few, input-count text c, gate-count text c);
-                };
-            one = sym (output-count text c) ∙ kept .one-output;
-            fine = sym (ap (λ (x : Lemmas). x .fault) found-is) ∙ fine;
-            short =
-                subst (λ (x : Lemmas). x .longest ≤ 64) found-is (longest-within counted (sym said ∙ e));
-          }
+                  is = on-live ∙ rw (within few) (ap (λ (l : LemmaText.Lemmas). accepted (built (circuit-at text c) (lemmas-of l))) (sym (right-is .1)));
+                  small =
+                      record {
+                        whole = whole;
+                        latches = subst (λ (k : ℕ). k ≤ 96) (latch-count text c) (limits .latches-few);
+                        helpers = omega (arith, limits .helpers-few, input-count text c, gate-count text c);
+                      };
+                  one = one-kept;
+                  fine = sym (ap (λ (x : Lemmas). x .fault) found-is) ∙ fine;
+                  short = subst (λ (x : Lemmas). x .longest ≤ 64) found-is (longest-within counted (sym said ∙ kept));
+                }
 
 -- ---- both texts
 
@@ -162,10 +198,10 @@ module _ (text lemmas : List ℕ) (t : Texts) (j : Judged text lemmas t) where
     pub texts-within : WithinLimits text lemmas c
     texts-within = subst (Judged text lemmas) e j
 
-    pub texts-fit : length (file-of (problem-of text c lemmas)) ≤ 35666
+    pub texts-fit : length (file-of (problem-of text c lemmas)) ≤ 46220
     texts-fit = accepted-fits text lemmas (problem-of text c lemmas) (texts-within .is) .1
 
-    pub texts-written : (out after : List ℕ) (len : ℕ) → 35666 ≤ length out → len ≡ length (file-of (problem-of text c lemmas))
+    pub texts-written : (out after : List ℕ) (len : ℕ) → 46220 ≤ length out → len ≡ length (file-of (problem-of text c lemmas))
         → after ≡ put 0 (file-of (problem-of text c lemmas)) out → WrittenAs text lemmas after len
     unfolding put
     texts-written out after len room len-is after-is =
@@ -178,5 +214,5 @@ module _ (text lemmas : List ℕ) (t : Texts) (j : Judged text lemmas t) where
               ∙ take-append-seam bytes (drop (0 + length bytes) out);
           inside =
               omega (arith, len-is, ap length after-is, length-append bytes (drop (0 + length bytes) out));
-          most = subst (λ (k : ℕ). k ≤ 35666) (sym len-is) texts-fit;
+          most = subst (λ (k : ℕ). k ≤ 46220) (sym len-is) texts-fit;
         }

@@ -13,10 +13,10 @@ use crate::reading::file_of;
 use problem::Report;
 
 // As many bytes as the file of a circuit's problem may take.
-fn room() -> [u8; 35666]
-    ensures { λ r. ⌜ length r ≡ 35666 ⌝ }
+fn room() -> [u8; 46220]
+    ensures { λ r. ⌜ length r ≡ 46220 ⌝ }
 {
-    [0; 35666]
+    [0; 46220]
 }
 
 // A refusal returns its number and place.

@@ -1,22 +1,37 @@
-// Both texts read: 13 of the circuit, 13 of the lemmas, 14; or the problem built, as a file.
+// Both texts read: 13 of the circuit, 13 of the lemmas, 15, 14; or the problem built, as a file.
 ghost use mathlib.Core.Path.{_≡_};
 ghost use Prim.Native.Nat.{_≤_};
 ghost use lib.ListN.{length};
 ghost use Rattle.sections.specs.Whole.{Whole, «circuit-at»};
 ghost use Rattle.meaning.specs.CircuitText.{«read-circuit-text», right};
+ghost use Rattle.circuits.specs.Limits.{liveness};
 ghost use Rattle.circuits.specs.Reading.{Judged, FiledAs};
 use crate::limits::Counted;
 use crate::limits::over_limits;
 use built::write_problem;
 use circuit_text::read::Found;
 use circuit_text::read::read_circuit;
+use clause_count::clause_count;
 use lemma_text::read_lemmas;
 use sections::circuit::Circuit;
+use sections::circuit::Properties;
 
 // What both texts come to: a refusal with its number and place, or a circuit whose problem is within the limits.
 pub enum Texts {
     Refused(u32, usize),
     Within(Circuit),
+}
+
+// Whether there is a justice property or a fairness constraint.
+fn has_liveness(p: Properties) -> bool
+    ensures { λ r. ⌜ r ≡ liveness p ⌝ }
+{
+    let justice = p.counts;
+    if 0 < justice.count {
+        return true;
+    }
+    let fairness = p.fairness;
+    0 < fairness.count
 }
 
 // The lemmas of a circuit that is read, and the limits.
@@ -32,7 +47,12 @@ fn judge(text: &[u8], c: Circuit, lemmas: &[u8]) -> Texts
     }
     let inputs = c.inputs;
     let gates = c.gates;
-    let outputs = c.outputs;
+    let properties = c.properties;
+    if has_liveness(properties) {
+        return Texts::Refused(15, 0);
+    }
+    let outputs = properties.outputs;
+    let bads = properties.bads;
     if over_limits(Counted {
         text: text.len(),
         lemma_text: lemmas.len(),
@@ -40,9 +60,13 @@ fn judge(text: &[u8], c: Circuit, lemmas: &[u8]) -> Texts
         inputs: inputs.count,
         gates: gates.count,
         outputs: outputs.count,
+        bads: bads.count,
         lemmas: found.count,
         longest: found.longest,
     }) {
+        return Texts::Refused(14, 0);
+    }
+    if 4096 < clause_count(text, c) + found.count {
         return Texts::Refused(14, 0);
     }
     Texts::Within(c)
@@ -66,7 +90,7 @@ pub enum Filed {
 
 // The problem file of two texts, from the first byte on.
 pub fn file_of(text: &[u8], lemmas: &[u8], out: &mut [u8]) -> Filed
-    requires { ⌜ 35666 ≤ length (now out) ⌝ }
+    requires { ⌜ 46220 ≤ length (now out) ⌝ }
     ensures { λ r. ⌜ FiledAs (now (text .entry)) (now (lemmas .entry)) (now (out .exit)) r ⌝ }
 {
     let read = read_texts(text, lemmas);

@@ -6,7 +6,7 @@ use lib.ListN.{length}
 use lib.Dec.{eqb}
 use Rattle.meaning.specs.Clauses.{Literal, pos, neg, Clause, negation, any}
 use Rattle.meaning.specs.Meaning.{Problem}
-use Rattle.meaning.specs.Circuit.{Circuit, Latch, Gate, var, negated, output, input-variables, latch-variables, gate-variables}
+use Rattle.meaning.specs.Circuit.{Circuit, Latch, Gate, Start, at-0, at-1, at-either, var, negated, bad-literal, input-variables, latch-variables, gate-variables}
 
 -- a number is one of a list
 unfoldable pub among : ℕ → List ℕ → Bool
@@ -70,19 +70,30 @@ unfoldable pub latches-clauses : Circuit → ℕ → List Latch → List Clause
 latches-clauses c i [] = []
 latches-clauses c i (q ∷ qs) = next-clauses (n-of c + i) (edge c (q .next)) ++ latches-clauses c (suc i) qs
 
--- (-i) for each latch
-unfoldable pub zero-clauses : ℕ → List Latch → List Clause
-zero-clauses i [] = []
-zero-clauses i (q ∷ qs) = (neg i ∷ []) ∷ zero-clauses (suc i) qs
+-- (-i) for a latch that starts at 0, (i) for one that starts at 1, none for one that starts at either
+unfoldable pub start-clause : ℕ → Start → List Clause
+start-clause i at-0 = (neg i ∷ []) ∷ []
+start-clause i at-1 = (pos i ∷ []) ∷ []
+start-clause i at-either = []
 
--- Init: (-i) for each latch. Tr: the gates, then the latches. Bad: the gates again, then the output.
+unfoldable pub start-clauses : ℕ → List Latch → List Clause
+start-clauses i [] = []
+start-clauses i (q ∷ qs) = start-clause i (q .start) ++ start-clauses (suc i) qs
+
+-- (l) for each of some literals: the constraints, and before them the bad literal
+unfoldable pub one-clauses : Circuit → List ℕ → List Clause
+one-clauses c [] = []
+one-clauses c (l ∷ ls) = clause-if (edge c l ∷ []) ++ one-clauses c ls
+
+-- Init: where each latch starts. Tr: the gates, then the latches, then the constraints. Bad: the gates again, then the bad literal, then the
+-- constraints.
 unfoldable pub built : Circuit → List Clause → Problem
 built c lemmas =
     record {
       n = n-of c;
       m = length (helpers c);
-      init = zero-clauses 1 (c .latches);
-      tr = gates-clauses c (c .gates) ++ latches-clauses c 1 (c .latches);
-      bad = gates-clauses c (c .gates) ++ clause-if (edge c (output c) ∷ []);
+      init = start-clauses 1 (c .latches);
+      tr = gates-clauses c (c .gates) ++ (latches-clauses c 1 (c .latches) ++ one-clauses c (c .constraints));
+      bad = gates-clauses c (c .gates) ++ one-clauses c (bad-literal c ∷ c .constraints);
       lemmas = lemmas;
     }

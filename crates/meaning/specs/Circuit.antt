@@ -1,5 +1,5 @@
--- A circuit by itself, in the words of the AIGER format: the value of a literal, the start state, the next state, runs, and the states where
--- its output can be 1. Nothing here speaks of clauses or of problem files.
+-- A circuit by itself, in the words of the AIGER format, both editions: the value of a literal, start states, next states, runs, and bad
+-- states. An older circuit is one whose latches all start at 0 and that has no constraints. Nothing here speaks of clauses or of problem files.
 use Prim.Native.Nat.{ℕ, zero, suc, _/_, _%_}
 use mathlib.Core.Path.{_≡_}
 use mathlib.Core.Bool.{Bool, true, false, not, _&&_, cond}
@@ -16,10 +16,17 @@ var l = l / 2
 unfoldable pub negated : ℕ → Bool
 negated l = eqb (l % 2) 1
 
--- a latch: its literal, and the literal of its next value
+-- where a latch starts: at 0, at 1, or at either value
+pub data Start : Type 0 where
+  at-0 : Start
+  at-1 : Start
+  at-either : Start
+
+-- a latch: its literal, the literal of its next value, and where it starts
 pub record Latch : Type 0 where
   pub lit : ℕ
   pub next : ℕ
+  pub start : Start
 
 -- a gate: its literal, and the two literals whose conjunction it is
 pub record Gate : Type 0 where
@@ -27,16 +34,21 @@ pub record Gate : Type 0 where
   pub left : ℕ
   pub right : ℕ
 
--- inputs, latches, outputs and gates, each in line order
+-- inputs, latches, outputs, bad literals, constraints and gates, each in line order; and how many justice properties and fairness constraints
+-- it has, of which nothing more is asked
 pub record Circuit : Type 0 where
   pub inputs : List ℕ
   pub latches : List Latch
   pub outputs : List ℕ
+  pub bads : List ℕ
+  pub constraints : List ℕ
+  pub justice : ℕ
+  pub fairness : ℕ
   pub gates : List Gate
 
--- the single output
-unfoldable pub output : Circuit → ℕ
-output c = getD (c .outputs) 0 0
+-- the bad literal or, where there is none, the single output
+unfoldable pub bad-literal : Circuit → ℕ
+bad-literal c = getD (c .bads ++ c .outputs) 0 0
 
 -- the value of a literal, where v gives each variable a value
 unfoldable pub value : Values → ℕ → Bool
@@ -65,36 +77,47 @@ pub record Worth (c : Circuit) (s : State) (x v : Values) : Type 0 where
   pub latches : LatchesAre v s 1 (c .latches)
   pub gates : GatesAre v (c .gates)
 
--- every latch starts at 0
-abbrev pub AllZero : State → ℕ → List Latch → Type 0
-AllZero s i [] = Unit {0}
-AllZero s i (q ∷ qs) = (s i ≡ false) × AllZero s (suc i) qs
+-- a latch may start with this value
+abbrev pub StartsWith : Start → Bool → Type 0
+StartsWith at-0 b = b ≡ false
+StartsWith at-1 b = b ≡ true
+StartsWith at-either b = Unit {0}
+
+-- every latch has a value that it may start with
+abbrev pub AllStart : State → ℕ → List Latch → Type 0
+AllStart s i [] = Unit {0}
+AllStart s i (q ∷ qs) = StartsWith (q .start) (s i) × AllStart s (suc i) qs
 
 abbrev pub StartState : Circuit → State → Type 0
-StartState c s = AllZero s 1 (c .latches)
+StartState c s = AllStart s 1 (c .latches)
+
+-- all these literals are 1
+abbrev pub AllOne : Values → List ℕ → Type 0
+AllOne v [] = Unit {0}
+AllOne v (l ∷ ls) = (value v l ≡ true) × AllOne v ls
 
 -- in the state t every latch has the value that its next literal had
 abbrev pub AllNext : Values → State → ℕ → List Latch → Type 0
 AllNext v t i [] = Unit {0}
 AllNext v t i (q ∷ qs) = (t i ≡ value v (q .next)) × AllNext v t (suc i) qs
 
--- t is the next state of s at some inputs
+-- t is a next state of s: for some inputs at which every constraint holds before the step
 abbrev pub NextState : Circuit → State → State → Type 0
-NextState c s t = (x v : Values) × Worth c s x v × AllNext v t 1 (c .latches)
+NextState c s t = (x v : Values) × Worth c s x v × AllNext v t 1 (c .latches) × AllOne v (c .constraints)
 
 -- each state of the list is a next state of the one before it, the first of s
 abbrev pub NextStates : Circuit → State → List State → Type 0
 NextStates c s [] = Unit {0}
 NextStates c s (t ∷ ts) = NextState c s t × NextStates c t ts
 
--- a run of the circuit: a list of states whose first is the start state, and each other a next state of the one before it
+-- a run of the circuit: a list of states whose first is a start state, and each other a next state of the one before it
 abbrev pub CircuitRun : Circuit → List State → Type 0
 CircuitRun c [] = ⊥
 CircuitRun c (s ∷ ts) = StartState c s × NextStates c s ts
 
--- a state is bad if for some inputs the output is 1
-abbrev pub OutputCanBe1 : Circuit → State → Type 0
-OutputCanBe1 c s = (x v : Values) × Worth c s x v × (value v (output c) ≡ true)
+-- a state is bad if for some inputs the bad literal and all constraints are 1 together
+abbrev pub CanBeBad : Circuit → State → Type 0
+CanBeBad c s = (x v : Values) × Worth c s x v × AllOne v (bad-literal c ∷ c .constraints)
 
 -- the variables that lines define, in the order inputs, latches, gates
 unfoldable pub latch-variables : Circuit → List ℕ

@@ -16,7 +16,7 @@ use Rattle.meaning.specs.Lines
 use Rattle.meaning.specs.CircuitText
 use Rattle.meaning.specs.LemmaText
 use Rattle.meaning.specs.Circuits
-use Rattle.meaning.specs.Circuits.{read-circuit, refusal-13, refusal-14}
+use Rattle.meaning.specs.Circuits.{read-circuit, refusal-13, refusal-14, refusal-15}
 
 -- ---- texts, printed
 
@@ -68,6 +68,41 @@ small-problem =
       lemmas = (neg 1 ∷ []) ∷ [];
     })
 
+-- An input 2, latches 4, 6 and 8 that start at 1, at either value and at 0, a bad literal 6, the constraints 2, false and true:
+-- aag 4 1 3 0 0 1 3 / 2 / 4 2 1 / 6 4 6 / 8 8 / 6 / 2 / 0 / 1
+unfoldable pub guarded-text : List ℕ
+guarded-text =
+    aiger (4 ∷ 1 ∷ 3 ∷ 0 ∷ 0 ∷ 1 ∷ 3 ∷ [])
+    ((2 ∷ []) ∷ (4 ∷ 2 ∷ 1 ∷ []) ∷ (6 ∷ 4 ∷ 6 ∷ []) ∷ (8 ∷ 8 ∷ []) ∷ (6 ∷ []) ∷ (2 ∷ []) ∷ (0 ∷ []) ∷ (1 ∷ []) ∷ [])
+
+-- The latches are variables 1 to 3, their next values 4 to 6, the input is 7. The constraint that is false leaves an empty clause, and the one
+-- that is true none.
+unfoldable pub guarded-problem : Reading
+guarded-problem =
+    accepted
+    (record {
+      n = 3;
+      m = 1;
+      init = (pos 1 ∷ []) ∷ (neg 3 ∷ []) ∷ [];
+      tr =
+          (neg 4 ∷ pos 7 ∷ []) ∷ (pos 4 ∷ neg 7 ∷ []) ∷ (neg 5 ∷ pos 1 ∷ []) ∷ (pos 5 ∷ neg 1 ∷ []) ∷ (neg 6 ∷ pos 3 ∷ []) ∷ (pos 6 ∷ neg 3 ∷ []) ∷
+          (pos 7 ∷ []) ∷ [] ∷ [];
+      bad = (pos 2 ∷ []) ∷ (pos 7 ∷ []) ∷ [] ∷ [];
+      lemmas = (neg 1 ∷ []) ∷ [];
+    })
+
+unfoldable pub toggles-problem : Reading
+toggles-problem =
+    accepted
+    (record {
+      n = 1;
+      m = 0;
+      init = (neg 1 ∷ []) ∷ [];
+      tr = (neg 2 ∷ neg 1 ∷ []) ∷ (pos 2 ∷ pos 1 ∷ []) ∷ [];
+      bad = (pos 1 ∷ []) ∷ [];
+      lemmas = (neg 1 ∷ []) ∷ [];
+    })
+
 -- ---- the table
 
 -- two texts, and what they are read as
@@ -92,8 +127,9 @@ circuit-table =
     case (small-text ++ (105 ∷ 48 ∷ 32 ∷ 120 ∷ 10 ∷ 105 ∷ 48 ∷ 48 ∷ 32 ∷ 120 ∷ 10 ∷ [])) [] (refusal-13 (length small-text + 5)) ∷
     -- a last line without its newline
     case (small-text ++ (99 ∷ [])) [] (refusal-13 (length small-text)) ∷
-    -- six numbers in the header; I + L + A over M; a line that is missing
-    case (aiger (1 ∷ 0 ∷ 1 ∷ 1 ∷ 0 ∷ 0 ∷ []) toggles) [] (refusal-13 0) ∷
+    -- four numbers in the header, or ten; I + L + A over M; a line that is missing
+    case (aiger (1 ∷ 0 ∷ 1 ∷ 1 ∷ []) toggles) [] (refusal-13 0) ∷
+    case (aiger (1 ∷ 0 ∷ 1 ∷ 1 ∷ 0 ∷ 0 ∷ 0 ∷ 0 ∷ 0 ∷ 0 ∷ []) toggles) [] (refusal-13 0) ∷
     case (aiger (1 ∷ 1 ∷ 1 ∷ 1 ∷ 0 ∷ []) toggles) [] (refusal-13 0) ∷
     case (aiger (2 ∷ 0 ∷ 1 ∷ 2 ∷ 0 ∷ []) toggles) [] (refusal-13 20) ∷
     -- a literal over 2M+1; one that is defined twice, or odd
@@ -112,8 +148,25 @@ circuit-table =
     case (aiger (1 ∷ 0 ∷ 1 ∷ 2 ∷ 0 ∷ []) ((2 ∷ 3 ∷ []) ∷ (2 ∷ []) ∷ (3 ∷ []) ∷ [])) (denies 1) refusal-14 ∷
     case (aiger (0 ∷ 0 ∷ 0 ∷ 1 ∷ 0 ∷ []) ((1 ∷ []) ∷ [])) [] refusal-14 ∷
     case (aiger (1 ∷ 0 ∷ 1 ∷ 2 ∷ 0 ∷ []) ((2 ∷ 3 ∷ []) ∷ (2 ∷ []) ∷ (3 ∷ []) ∷ [])) (denies 2) (refusal-13 0) ∷
+    -- edition 1.9: start values, a bad literal and constraints, one of them constant
+    case guarded-text (denies 1) guarded-problem ∷
+    -- the single output is bad where no bad literal stands; the numbers that are left out are 0
+    case (aiger (1 ∷ 0 ∷ 1 ∷ 1 ∷ 0 ∷ 0 ∷ []) toggles) (denies 1) toggles-problem ∷
+    -- a start value under a header of five numbers, and one that is another literal
+    case (aiger (1 ∷ 0 ∷ 1 ∷ 1 ∷ 0 ∷ []) ((2 ∷ 3 ∷ 1 ∷ []) ∷ (2 ∷ []) ∷ [])) [] (refusal-13 14) ∷
+    case (aiger (1 ∷ 0 ∷ 1 ∷ 1 ∷ 0 ∷ 0 ∷ []) ((2 ∷ 3 ∷ 3 ∷ []) ∷ (2 ∷ []) ∷ [])) [] (refusal-13 16) ∷
+    -- two justice properties of one literal and of none, then a fairness literal: 15, after both texts' 13, and before 14
+    case (aiger (1 ∷ 0 ∷ 1 ∷ 0 ∷ 0 ∷ 0 ∷ 0 ∷ 2 ∷ 1 ∷ []) ((2 ∷ 3 ∷ []) ∷ (1 ∷ []) ∷ (0 ∷ []) ∷ (2 ∷ []) ∷ (3 ∷ []) ∷ [])) (denies 1) refusal-15 ∷
+    case (aiger (1 ∷ 0 ∷ 1 ∷ 0 ∷ 0 ∷ 0 ∷ 0 ∷ 2 ∷ 1 ∷ []) ((2 ∷ 3 ∷ []) ∷ (1 ∷ []) ∷ (0 ∷ []) ∷ (2 ∷ []) ∷ (4 ∷ []) ∷ [])) (denies 1) (refusal-13 32) ∷
+    case (aiger (1 ∷ 0 ∷ 1 ∷ 0 ∷ 0 ∷ 0 ∷ 0 ∷ 2 ∷ 1 ∷ []) ((2 ∷ 3 ∷ []) ∷ (1 ∷ []) ∷ (0 ∷ []) ∷ (2 ∷ []) ∷ (3 ∷ []) ∷ [])) (denies 2) (refusal-13 0) ∷
+    -- a bad literal beside an output, and two bad literals
+    case (aiger (1 ∷ 0 ∷ 1 ∷ 1 ∷ 0 ∷ 1 ∷ []) ((2 ∷ 3 ∷ []) ∷ (2 ∷ []) ∷ (2 ∷ []) ∷ [])) (denies 1) refusal-14 ∷
+    case (aiger (1 ∷ 0 ∷ 1 ∷ 0 ∷ 0 ∷ 2 ∷ []) ((2 ∷ 3 ∷ []) ∷ (2 ∷ []) ∷ (2 ∷ []) ∷ [])) (denies 1) refusal-14 ∷
+    -- a symbol of the constraint, which is no comment, and one of a constraint that is not there
+    case (guarded-text ++ (99 ∷ 48 ∷ 32 ∷ 120 ∷ 10 ∷ 98 ∷ 48 ∷ 32 ∷ 120 ∷ 10 ∷ [])) (denies 1) guarded-problem ∷
+    case (guarded-text ++ (99 ∷ 51 ∷ 32 ∷ 120 ∷ 10 ∷ [])) (denies 1) (refusal-13 (length guarded-text)) ∷
     []
 
 pub circuit-table-holds : map (λ (c : Case). read-circuit (c .text) (c .lemma-text)) circuit-table ≡ map (λ (c : Case). c .reading) circuit-table
-unfolding shown row rows aiger denies small small-text small-gates small-problem case toggles circuit-table read-circuit Circuits.on-circuit Circuits.on-lemmas Circuits.over-limits CircuitText.read-circuit-text CircuitText.if-header CircuitText.after-header CircuitText.used-of CircuitText.is-judged CircuitText.defined-in CircuitText.on-none CircuitText.on-lines CircuitText.uses-fault CircuitText.or-else CircuitText.first-not CircuitText.gate-works CircuitText.worked-out CircuitText.given CircuitText.known CircuitText.circuit-of CircuitText.gate-of CircuitText.latch-of CircuitText.at-number CircuitText.symbols-fault CircuitText.fault-unless CircuitText.unless-done CircuitText.begins-comment CircuitText.symbol-right CircuitText.symbol-of CircuitText.symbol-digits CircuitText.positions CircuitText.same-symbol CircuitText.section CircuitText.if-right CircuitText.line-and CircuitText.before-next CircuitText.line-right CircuitText.numbers-at CircuitText.literals-right CircuitText.defined-right CircuitText.used-right CircuitText.gate-form CircuitText.output-form CircuitText.latch-form CircuitText.input-form CircuitText.header-right CircuitText.header-of CircuitText.number-in CircuitText.same-bytes Lines.of-numbers Lines.decimal Lines.decimal-on Lines.is-number Lines.is-digit Lines.is-empty Lines.words Lines.with-first Lines.next-line Lines.ended Lines.line-at Lines.until Built.built Built.zero-clauses Built.latches-clauses Built.next-clauses Built.gates-clauses Built.and-clauses Built.clause-if Built.opposite Built.edge Built.literal-if Built.number Built.helpers Built.n-of Built.position Built.among Circuit.variables Circuit.input-variables Circuit.gate-variables Circuit.latch-variables Circuit.output Circuit.negated Circuit.var LemmaText.read-lemma-text LemmaText.lemmas-from LemmaText.unless-end LemmaText.if-lemma LemmaText.lemma-and LemmaText.lemma-of LemmaText.latch-literal LemmaText.lemma-right LemmaText.is-zero LemmaText.latch-right LemmaText.unsigned LemmaText.has-minus Clauses.any Clauses.all Clauses.negation File.between Circuits.refusal-13 Circuits.refusal-14
+unfolding shown row rows aiger denies small small-text small-gates small-problem case toggles toggles-problem guarded-text guarded-problem circuit-table read-circuit Circuits.on-circuit Circuits.on-lemmas Circuits.has-liveness Circuits.over-limits Circuits.clause-count CircuitText.read-circuit-text CircuitText.if-header CircuitText.after-header CircuitText.on-properties CircuitText.total CircuitText.used-of CircuitText.is-judged CircuitText.defined-in CircuitText.on-none CircuitText.on-lines CircuitText.uses-fault CircuitText.first-unknown CircuitText.or-else CircuitText.first-not CircuitText.gate-works CircuitText.worked-out CircuitText.given CircuitText.known CircuitText.circuit-of CircuitText.gate-of CircuitText.latch-of CircuitText.start-of CircuitText.at-number CircuitText.symbols-fault CircuitText.fault-unless CircuitText.unless-done CircuitText.begins-comment CircuitText.symbol-right CircuitText.symbol-of CircuitText.symbol-digits CircuitText.positions CircuitText.same-symbol CircuitText.section CircuitText.if-right CircuitText.line-and CircuitText.before-next CircuitText.line-right CircuitText.width-right CircuitText.start-right CircuitText.numbers-at CircuitText.literals-right CircuitText.defined-right CircuitText.used-right CircuitText.gate-form CircuitText.count-form CircuitText.used-form CircuitText.latch-form CircuitText.input-form CircuitText.header-right CircuitText.header-of CircuitText.number-in CircuitText.same-bytes Lines.of-numbers Lines.decimal Lines.decimal-on Lines.is-number Lines.is-digit Lines.is-empty Lines.words Lines.with-first Lines.next-line Lines.ended Lines.line-at Lines.until Built.built Built.one-clauses Built.start-clauses Built.start-clause Built.latches-clauses Built.next-clauses Built.gates-clauses Built.and-clauses Built.clause-if Built.opposite Built.edge Built.literal-if Built.number Built.helpers Built.n-of Built.position Built.among Circuit.variables Circuit.input-variables Circuit.gate-variables Circuit.latch-variables Circuit.bad-literal Circuit.negated Circuit.var LemmaText.read-lemma-text LemmaText.lemmas-from LemmaText.unless-end LemmaText.if-lemma LemmaText.lemma-and LemmaText.lemma-of LemmaText.latch-literal LemmaText.lemma-right LemmaText.is-zero LemmaText.latch-right LemmaText.unsigned LemmaText.has-minus Clauses.any Clauses.all Clauses.negation File.between Circuits.refusal-13 Circuits.refusal-14 Circuits.refusal-15
 circuit-table-holds = refl

@@ -1,4 +1,4 @@
--- Circuits as every job reads them: two texts in place of a problem file. 13 of the circuit, 13 of the lemmas, 14, then 9 and the rest.
+-- Circuits as every job reads them: two texts in place of a problem file. 13 of the circuit, 13 of the lemmas, 15, 14, then 9 and the rest.
 use Prim.Native.Nat.{ℕ, zero, suc, _+_}
 use mathlib.Core.Bool.{Bool, true, false, not, _||_, cond}
 use mathlib.Core.List.{List, [], _∷_, _++_}
@@ -6,7 +6,7 @@ use lib.ListN.{length, drop}
 use lib.Dec.{ltb, eqb}
 use Rattle.meaning.specs.Clauses.{Clause, any}
 use Rattle.meaning.specs.Meaning.{Problem, k}
-use Rattle.meaning.specs.File.{Reading, accepted, rejected, file-most, n-most, m-most, lemmas-most}
+use Rattle.meaning.specs.File.{Reading, accepted, rejected, file-most, n-most, m-most, clauses-most, lemmas-most}
 use Rattle.meaning.specs.Calls.{Outcome, refusal, on-reading, checked, largest-job, one-job, list-job}
 use Rattle.meaning.specs.Filed.{file-of}
 use Rattle.meaning.specs.Circuit.{Circuit}
@@ -20,13 +20,22 @@ use Rattle.meaning.specs.LemmaText.{Lemmas, read-lemma-text}
 abbrev pub literals-most : ℕ
 literals-most = 64
 
--- 14: a text over 65,536 bytes; no latch, or more than 96; I + A over 320; other than one output; over 128 lemmas; a lemma of more than 64
--- literals
+-- the clauses of a problem, lemmas included
+unfoldable pub clause-count : Problem → ℕ
+clause-count p = length (p .init) + length (p .tr) + length (p .bad) + length (p .lemmas)
+
+-- 14: a text over 65,536 bytes; no latch, or more than 96; I + A over 320; other than one literal in outputs and bad literals together; over 128
+-- lemmas; a lemma of more than 64 literals; over 4,096 clauses, counted as they are built
 unfoldable pub over-limits : List ℕ → List ℕ → Circuit → List Clause → Bool
 over-limits text lemma-text c lemmas =
     ltb file-most (length text) || ltb file-most (length lemma-text) || eqb (length (c .latches)) 0 || ltb n-most (length (c .latches))
-    || ltb m-most (length (c .inputs) + length (c .gates)) || not (eqb (length (c .outputs)) 1) || ltb lemmas-most (length lemmas)
-    || any (λ (d : Clause). ltb literals-most (length d)) lemmas
+    || ltb m-most (length (c .inputs) + length (c .gates)) || not (eqb (length (c .outputs) + length (c .bads)) 1)
+    || ltb lemmas-most (length lemmas) || any (λ (d : Clause). ltb literals-most (length d)) lemmas
+    || ltb clauses-most (clause-count (built c lemmas))
+
+-- 15: justice or fairness
+unfoldable pub has-liveness : Circuit → Bool
+has-liveness c = ltb 0 (c .justice) || ltb 0 (c .fairness)
 
 unfoldable pub refusal-13 : ℕ → Reading
 refusal-13 at = rejected (record { number = 13; place = at })
@@ -34,10 +43,13 @@ refusal-13 at = rejected (record { number = 13; place = at })
 unfoldable pub refusal-14 : Reading
 refusal-14 = rejected (record { number = 14; place = 0 })
 
+unfoldable pub refusal-15 : Reading
+refusal-15 = rejected (record { number = 15; place = 0 })
+
 unfoldable pub on-lemmas : List ℕ → List ℕ → Circuit → Lemmas → Reading
 on-lemmas text lemma-text c (LemmaText.wrong at) = refusal-13 at
 on-lemmas text lemma-text c (LemmaText.right lemmas) =
-    cond (over-limits text lemma-text c lemmas) refusal-14 (accepted (built c lemmas))
+    cond (has-liveness c) refusal-15 (cond (over-limits text lemma-text c lemmas) refusal-14 (accepted (built c lemmas)))
 
 unfoldable pub on-circuit : List ℕ → List ℕ → Text → Reading
 on-circuit text lemma-text (CircuitText.wrong at) = refusal-13 at

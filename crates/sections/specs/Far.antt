@@ -8,11 +8,10 @@ use mathlib.Core.List.{List, [], _∷_}
 use lib.ListN.{length}
 use lib.Dec.{eqb}
 use Rattle.meaning.specs.Clauses.{all}
-use Rattle.meaning.specs.Lines.{space, line-at, next-line, with-first, words, is-empty, is-digit, is-number, of-numbers}
+use Rattle.meaning.specs.Lines.{space, line-at, next-line, with-first, words, is-empty, is-digit, is-number}
 use Rattle.laws.specs.Basics.{and-left, and-right}
 use Rattle.sections.specs.Lists.{line-after}
-use Rattle.sections.specs.Split.{numbers-all, numbers-count}
-use Rattle.sections.specs.SectionLines.{Rows}
+use Rattle.sections.specs.SectionLines.{Row, Rows}
 
 -- the words of a line with a byte after each
 total : List (List ℕ) → ℕ
@@ -47,19 +46,14 @@ numbers-long (w ∷ ws) h =
     omega (arith, number-long w (and-left (is-number w) (all is-number ws) h), numbers-long ws (and-right (is-number w) (all is-number ws) h))
 
 -- a line of so many numbers, with its newline
-pub line-long : (text : List ℕ) (width at : ℕ) → of-numbers width (line-at text at) ≡ true → at + 2 * width ≤ next-line text at
+pub line-long : (text : List ℕ) (width at : ℕ) → Row text width at → at + 2 * width ≤ next-line text at
 unfolding next-line
-line-long text width at h =
-    omega (
-      arith,
-      numbers-long (words (line-at text at)) (numbers-all width (line-at text at) h),
-      words-total (line-at text at),
-      numbers-count width (line-at text at) h,
-    )
+line-long text width at r =
+    omega (arith, numbers-long (words (line-at text at)) (r .numbers), words-total (line-at text at), r .wide)
 
 pub rows-far : (text : List ℕ) (width step : ℕ) → step ≤ 2 * width → (at i : ℕ) → Rows text width at i
     → at + step * i ≤ line-after text at i
 unfolding line-after
 rows-far text width step least at zero r = omega (arith, mul-zero step)
 rows-far text width step least at (suc i) r =
-    omega (arith, mul-suc step i, line-long text width at (r .1), rows-far text width step least (next-line text at) i (r .2))
+    omega (arith, mul-suc step i, line-long text width at (r .0), rows-far text width step least (next-line text at) i (r .1))

@@ -8,7 +8,7 @@ use mathlib.Core.Bool.{Bool, true, false, _&&_, cond, true≢false}
 use mathlib.Core.List.{List, [], _∷_, _++_, map, append-assoc, append-nil}
 use lib.ListN.{length, getD}
 use lib.Dec.{ltb, leb}
-use borrow.Author.Tests.{ltb-true, ltb-false, leb-true}
+use borrow.Author.Tests.{ltb-true, ltb-false, leb-true, leb-false}
 use Rattle.meaning.specs.Clauses.{all}
 use Rattle.meaning.specs.Lines.{line-at, ended, next-line, words, is-number, is-empty, of-numbers}
 use Rattle.meaning.specs.Circuit.{var}
@@ -23,7 +23,7 @@ use Rattle.sections.specs.declared.line.Before.{Before}
 use Rattle.sections.specs.declared.read.Ended.{Ended}
 use Rattle.sections.specs.Lists.{first-lines, line-after, Numbered, Placed, variables-of, lines-more, after-more, numbered-more}
 use Rattle.sections.specs.Rows.{form-of, before-of}
-use Rattle.sections.specs.Split.{numbers-all}
+use Rattle.sections.specs.SectionLines.{Row, right-row}
 
 unfoldable pub ended-as : Section → Ended
 ended-as (fault at) = record { fault = true; at = at }
@@ -70,15 +70,6 @@ module _ (text : List ℕ) (at : ℕ) where
           (sym (map-more (λ (l : Line). var (at-number 0 l)) (first-lines text at i) _)
           ∙ ap defined-in (sym (lines-more text at i) ∙ ap (first-lines text at) (sym (add-one i))))
       go false = refl
-
--- ---- a line that is right
-
-right-parts : (f : CircuitText.Form) (judged : Bool) (m : ℕ) (before text : List ℕ) (at : ℕ) → line-right f judged m before text at ≡ true
-    → (ended text at ≡ true) × (of-numbers (f .width) (line-at text at) ≡ true)
-unfolding line-right
-right-parts f judged m before text at h =
-    let both = and-left (ended text at && of-numbers (f .width) (line-at text at)) _ h in
-    (and-left (ended text at) _ both, and-right (ended text at) _ both)
 
 -- a line of numbers has a byte at least
 numbers-byte : (line : List ℕ) → all is-number (words line) ≡ true → 1 ≤ length line
@@ -137,12 +128,8 @@ module _ (text : List ℕ) (f : Form) (judged : Bool) (m : ℕ) (before : List �
 
       module _ (right : line-right (form-of f) judged m (before-line text at (f .defines) before i) text p ≡ true) (least : 1 ≤ f .width) (q : ℕ)
           (q-is : q ≡ next-line text p) (q-in : q ≤ length text) where
-        parts : (ended text p ≡ true) × (of-numbers (f .width) (line-at text p) ≡ true)
-        unfolding form-of
-        parts = right-parts (form-of f) judged m (before-line text at (f .defines) before i) text p right
-
-        numbers : all is-number (words (line-at text p)) ≡ true
-        numbers = numbers-all (f .width) (line-at text p) (parts .1)
+        row : Row text (form-of f .width) p
+        row = right-row (form-of f) judged m (before-line text at (f .defines) before i) text p right
 
         ends-next : ended-as (section (form-of f) judged m text (count - i) (before-line text at (f .defines) before i) p)
             ≡ ended-as (section (form-of f) judged m text (count - (i + 1)) (before-line text at (f .defines) before (i + 1)) q)
@@ -166,9 +153,9 @@ module _ (text : List ℕ) (f : Form) (judged : Bool) (m : ℕ) (before : List �
               numbered =
                   subst (Numbered text at) (sym (add-one i))
                   (numbered-more text at i (g .numbered)
-                  (subst (λ (k : ℕ). ended text k ≡ true) (g .place) (parts .0))
-                  (subst (λ (k : ℕ). all is-number (words (line-at text k)) ≡ true) (g .place) numbers));
-              far = omega (arith, g .far, q-is, numbers-byte (line-at text p) numbers);
+                  (subst (λ (k : ℕ). ended text k ≡ true) (g .place) (row .closed))
+                  (subst (λ (k : ℕ). all is-number (words (line-at text k)) ≡ true) (g .place) (row .numbers)));
+              far = omega (arith, g .far, q-is, numbers-byte (line-at text p) (row .numbers));
               low = omega arith;
             }
 
@@ -217,6 +204,22 @@ capped-most n = go (bool-cases (leb huge n))
     go : (leb huge n ≡ true) ⊎ (leb huge n ≡ false) → capped n ≤ n
     go (inl t) = rw t (leb-true huge n t)
     go (inr t) = rw t (omega arith)
+
+pub capped-self : (n : ℕ) → n ≤ huge → n ≡ capped n
+unfolding capped
+capped-self n h = go (bool-cases (leb huge n))
+  where
+    go : (leb huge n ≡ true) ⊎ (leb huge n ≡ false) → n ≡ cond (leb huge n) huge n
+    go (inl t) = sym (rw t (omega (arith, leb-true huge n t)))
+    go (inr t) = sym (rw t)
+
+pub capped-huge : (n : ℕ) → capped n ≤ huge
+unfolding capped
+capped-huge n = go (bool-cases (leb huge n))
+  where
+    go : (leb huge n ≡ true) ⊎ (leb huge n ≡ false) → cond (leb huge n) huge n ≤ huge
+    go (inl t) = rw t (omega arith)
+    go (inr t) = rw t (omega (arith, leb-false huge n t))
 
 -- ---- the same, with what the code has
 

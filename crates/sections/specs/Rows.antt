@@ -26,7 +26,7 @@ use Rattle.sections.specs.Lists.{variables-of, Placed, first-word-is}
 
 -- the form, as the definition has it
 unfoldable pub form-of : Form → CircuitText.Form
-form-of f = record { width = f .width; defines = f .defines }
+form-of f = record { width = f .width; defines = f .defines; starts = f .starts; counts = f .counts }
 
 -- the variables defined before
 unfoldable pub before-of : List ℕ → Before → List ℕ

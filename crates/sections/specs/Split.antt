@@ -26,6 +26,11 @@ pub numbers-all : (width : ℕ) (line : List ℕ) → of-numbers width line ≡ 
 unfolding of-numbers
 numbers-all width line h = and-right (eqb (length (words line)) width) (all is-number (words line)) h
 
+-- a line of numbers is one of as many as it has words
+pub of-all : (line : List ℕ) → all is-number (words line) ≡ true → of-numbers (length (words line)) line ≡ true
+unfolding of-numbers
+of-all line h = and-both (eqb (length (words line)) (length (words line))) (all is-number (words line)) (eq-eqb (length (words line)) (length (words line)) refl) h
+
 empty-number : (w : List ℕ) → length w ≡ 0 → is-number w ≡ false
 unfolding is-number is-empty
 empty-number [] e = refl

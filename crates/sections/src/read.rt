@@ -1,10 +1,10 @@
 // A section: so many lines of a form, one after another.
 ghost use mathlib.Core.Path.{_≡_};
 ghost use mathlib.Core.List.{_++_};
-ghost use Prim.Native.Nat.{_≤_};
+ghost use Prim.Native.Nat.{ℕ, _≤_};
 ghost use lib.ListN.{length};
 ghost use Rattle.meaning.specs.CircuitText.{section};
-ghost use Rattle.lines.specs.Numbers.{Stands, worth};
+ghost use Rattle.lines.specs.Numbers.{Stands, worth, huge, capped};
 ghost use Rattle.sections.specs.Lists.{Placed, «variables-of»};
 ghost use Rattle.sections.specs.Rows.{«form-of»};
 ghost use Rattle.sections.specs.Reading.{«ended-as», «own-count»};
@@ -30,11 +30,11 @@ fn own_count(defines: bool, i: usize) -> usize
     0
 }
 
-// So many lines from a place on. What is defined before are some inputs and some latches.
+// So many lines from a place on, however many more than a word holds. What is defined before are some inputs and some latches.
 pub fn read_section(
     text: &[u8],
     at: usize,
-    count: Number,
+    count: usize,
     form: Form,
     judged: bool,
     m: Number,
@@ -43,16 +43,16 @@ pub fn read_section(
 ) -> Ended
     requires { ⌜ at ≤ length (now text) ⌝ }
     requires { ⌜ 1 ≤ form .width ⌝ }
-    requires { ⌜ Stands (now text) count ⌝ }
+    requires { ⌜ form .width ≤ 3 ⌝ }
+    requires { ⌜ count ≤ huge ⌝ }
     requires { ⌜ Stands (now text) m ⌝ }
     requires { ⌜ Placed (now text) inputs ⌝ }
     requires { ⌜ Placed (now text) latches ⌝ }
-    ensures { λ r. ⌜ r ≡ «ended-as» (section («form-of» form) judged (worth (now (text .entry)) m) (now (text .entry)) (worth (now (text .entry)) count) («variables-of» (now (text .entry)) inputs ++ «variables-of» (now (text .entry)) latches) at) ⌝ }
+    ensures { λ r. ⌜ ((n : ℕ) → count ≡ capped n → r ≡ «ended-as» (section («form-of» form) judged (worth (now (text .entry)) m) (now (text .entry)) n («variables-of» (now (text .entry)) inputs ++ «variables-of» (now (text .entry)) latches) at)) ⌝ }
 {
-    let total = count.value;
     let mut p = at;
     let mut i: usize = 0;
-    while i < total {
+    while i < count {
         let own = own_count(form.defines, i);
         let before = Before {
             inputs,

@@ -21,13 +21,17 @@ use Rattle.symbols.specs.Form.{some-byte, all-digits}
 
 pub positions-small : (counts : Counts) → Small counts → (letter : ℕ) → positions (header-from counts) letter < huge
 unfolding positions header-from
-positions-small counts s letter = go (eqb letter 105) (eqb letter 108) (eqb letter 111)
+positions-small counts s letter =
+    either (eqb letter 105) (s .inputs)
+    (either (eqb letter 108) (s .latches)
+    (either (eqb letter 111) (s .outputs)
+    (either (eqb letter 98) (s .bads)
+    (either (eqb letter 99) (s .constraints)
+    (either (eqb letter 106) (s .justice) (either (eqb letter 102) (s .fairness) (omega arith)))))))
   where
-    go : (i l o : Bool) → cond i (counts .i) (cond l (counts .l) (cond o (counts .o) 0)) < huge
-    go true l o = s .inputs
-    go false true o = s .latches
-    go false false true = s .outputs
-    go false false false = omega arith
+    either : (is : Bool) {x y : ℕ} → x < huge → y < huge → cond is x y < huge
+    either true a b = a
+    either false a b = b
 
 all-three : (a b c : Bool) → (a && b && c) ≡ true → (a ≡ true) × (b ≡ true) × (c ≡ true)
 all-three a b c h =

@@ -19,13 +19,29 @@ fault-of (some p) = record { found = true; at = p }
 
 -- a header with these counts: no other of its numbers is looked at
 unfoldable pub header-from : Counts → Header
-header-from counts = record { m = 0; i = counts .i; l = counts .l; o = counts .o; a = 0 }
+header-from counts =
+    record {
+      m = 0;
+      i = counts .i;
+      l = counts .l;
+      o = counts .o;
+      a = 0;
+      b = counts .b;
+      c = counts .c;
+      j = counts .j;
+      f = counts .f;
+      newer = false;
+    }
 
 -- each count is below the bound from which on values are not told apart
 pub record Small (counts : Counts) : Type 0 where
   pub inputs : counts .i < huge
   pub latches : counts .l < huge
   pub outputs : counts .o < huge
+  pub bads : counts .b < huge
+  pub constraints : counts .c < huge
+  pub justice : counts .j < huge
+  pub fairness : counts .f < huge
 
 -- the line that starts at a place ends at another: a newline stands there, or the text has ended
 pub record LineTo (text : List ℕ) (at end : ℕ) : Type 0 where

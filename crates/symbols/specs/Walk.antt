@@ -16,10 +16,20 @@ use Rattle.symbols.specs.Symbols.{header-from, LineTo}
 
 -- ---- what it takes of the header
 
-module _ (h : Header) (counts : Counts) (i : h .i ≡ counts .i) (l : h .l ≡ counts .l) (o : h .o ≡ counts .o) where
+-- the counts are those of a header
+pub record CountsOf (h : Header) (counts : Counts) : Type 0 where
+  pub i : h .i ≡ counts .i
+  pub l : h .l ≡ counts .l
+  pub o : h .o ≡ counts .o
+  pub b : h .b ≡ counts .b
+  pub c : h .c ≡ counts .c
+  pub j : h .j ≡ counts .j
+  pub f : h .f ≡ counts .f
+
+module _ (h : Header) (counts : Counts) (same : CountsOf h counts) where
   positions-from : (letter : ℕ) → positions h letter ≡ positions (header-from counts) letter
   unfolding positions header-from
-  positions-from letter = rw (i, l, o)
+  positions-from letter = rw (same .i, same .l, same .o, same .b, same .c, same .j, same .f)
 
   right-from : (judged : Bool) (before : List Symbol) (line : List ℕ)
       → symbol-right judged h before line ≡ symbol-right judged (header-from counts) before line
@@ -30,7 +40,7 @@ module _ (h : Header) (counts : Counts) (i : h .i ≡ counts .i) (l : h .l ≡ c
       && leb (length (symbol-digits line) + 3) (length line) && not (judged && any (same-symbol (symbol-of line)) before))
       (positions-from (symbol-of line .letter))
 
-  -- it depends on the header only through how many inputs, latches and outputs there are
+  -- it depends on the header only through how many there are to name
   pub fault-from : (n : ℕ) (judged : Bool) (text : List ℕ) (before : List Symbol) (at : ℕ)
       → symbols-fault n judged h text before at ≡ symbols-fault n judged (header-from counts) text before at
   unfolding symbols-fault

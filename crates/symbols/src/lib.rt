@@ -19,11 +19,15 @@ pub struct Fault {
     pub at: usize,
 }
 
-// How many inputs, latches and outputs there are to name.
+// How many there are to name: inputs, latches, outputs, bad literals, constraints, justice properties and fairness constraints.
 pub struct Counts {
     pub i: usize,
     pub l: usize,
     pub o: usize,
+    pub b: usize,
+    pub c: usize,
+    pub j: usize,
+    pub f: usize,
 }
 
 // Symbol lines from a place on, in any order, then, perhaps, the comment. Whether a position is named twice is asked only where `judged`.

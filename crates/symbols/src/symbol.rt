@@ -12,7 +12,7 @@ use crate::Counts;
 use lines::line::next_line;
 use lines::number::number_at;
 
-// i, l or o has so many positions; any other letter has none.
+// i, l, o, b, c, j or f has so many positions; any other letter has none.
 fn positions(counts: Counts, letter: u8) -> usize
     requires { ⌜ Small counts ⌝ }
     ensures { λ r. ⌜ (r ≡ positions («header-from» counts) letter) × (r < huge) ⌝ }
@@ -26,10 +26,22 @@ fn positions(counts: Counts, letter: u8) -> usize
     if letter == 111 {
         return counts.o;
     }
+    if letter == 98 {
+        return counts.b;
+    }
+    if letter == 99 {
+        return counts.c;
+    }
+    if letter == 106 {
+        return counts.j;
+    }
+    if letter == 102 {
+        return counts.f;
+    }
     0
 }
 
-// A letter, at once a position below I, L or O, one space, a name of one byte at least.
+// A letter, at once a position below I, L, O, B, C, J or F, one space, a name of one byte at least.
 pub fn named_right(text: &[u8], counts: Counts, at: usize, end: usize) -> bool
     requires { ⌜ LineTo (now text) at end ⌝ }
     requires { ⌜ end < length (now text) ⌝ }

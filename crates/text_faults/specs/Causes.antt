@@ -5,38 +5,34 @@ use mathlib.Core.Bool.{Bool, true, false, not, _&&_, cond}
 use mathlib.Core.List.{List}
 use lib.ListN.{length, getD}
 use lib.Dec.{ltb, eqb}
-use Rattle.meaning.specs.Lines.{line-at, ended, of-numbers}
+use Rattle.meaning.specs.Clauses.{all}
+use Rattle.meaning.specs.File.{between}
+use Rattle.meaning.specs.Lines.{line-at, ended, words, is-number, of-numbers}
 use Rattle.meaning.specs.CircuitText.{used-right, numbers-at}
 use Rattle.circuit_text.specs.Header.{starts}
-use Rattle.text_faults.specs.declared.kind.Kind.{Kind}
-use Rattle.text_faults.specs.declared.kind.Kind.the-variants.{Header as HeaderLine, Input, Latch, Output, Gate, Symbol}
 use Rattle.text_faults.specs.declared.definers.Places.{Places}
 use Rattle.text_faults.specs.declared.cause.Cause.{Cause}
-use Rattle.text_faults.specs.declared.cause.Cause.the-variants.{Open, NoAag, HeaderNumbers, HeaderSum, Numbers, Reset, Odd, Small, Range, Twice, Undefined, Stuck}
+use Rattle.text_faults.specs.declared.cause.Cause.the-variants.{Open, NoAag, HeaderNumbers, HeaderSum, Numbers, Odd, Small, Range, Twice, Undefined, Stuck}
 use Rattle.text_faults.specs.Definers.{known-here, earlier}
 
 -- a line of so many numbers, ended
 unfoldable pub numbered : ℕ → List ℕ → ℕ → Bool
 numbered width text at = ended text at && of-numbers width (line-at text at)
 
--- a header that is not right: it does not start with 'aag' and a space, or five numbers do not follow, or else their sum is over M
+-- after 'aag' and its space, five to nine numbers
+unfoldable pub five-to-nine : List ℕ → Bool
+five-to-nine text = ended text 4 && (between 5 9 (length (words (line-at text 4))) && all is-number (words (line-at text 4)))
+
+-- a header that is not right: it does not start with 'aag' and a space, or five to nine numbers do not follow, or else their sum is over M
 unfoldable pub header-cause : List ℕ → Cause
-header-cause text = cond (starts text) (cond (ended text 0) (cond (numbered 5 text 4) HeaderSum HeaderNumbers) Open) NoAag
+header-cause text = cond (starts text) (cond (ended text 0) (cond (five-to-nine text) HeaderSum HeaderNumbers) Open) NoAag
 
--- a line that is not of so many numbers; a latch may have three
-abbrev pub numbers-cause : Kind → ℕ → List ℕ → ℕ → Cause
-numbers-cause Latch width text at = cond (numbered 3 text at) Reset (Numbers width)
-numbers-cause HeaderLine width text at = Numbers width
-numbers-cause Input width text at = Numbers width
-numbers-cause Output width text at = Numbers width
-numbers-cause Gate width text at = Numbers width
-numbers-cause Symbol width text at = Numbers width
-
--- a line of so many numbers at a place
+-- a line of so many numbers at least at a place
 pub record Row (text : List ℕ) (at width : ℕ) : Type 0 where
   pub inside : at < length text
   pub closed : ended text at ≡ true
-  pub numbers : of-numbers width (line-at text at) ≡ true
+  pub numbers : all is-number (words (line-at text at)) ≡ true
+  pub many : width ≤ length (words (line-at text at))
 
 -- number j of a line, counted from 0, is over 2M+1
 unfoldable pub out : List ℕ → ℕ → ℕ → ℕ → ℕ → Bool
@@ -80,3 +76,11 @@ defined-cause text at width defines m p =
 unfoldable pub literals-cause : List ℕ → ℕ → ℕ → Bool → ℕ → Places → Cause
 literals-cause text at width defines m p =
     cond defines (defined-cause text at width defines m p) (range-cause text at width defines m p)
+
+-- a line of so many numbers, and no others
+unfoldable pub form-cause : List ℕ → ℕ → ℕ → Bool → ℕ → Places → Cause
+form-cause text at width defines m p = cond (numbered width text at) (literals-cause text at width defines m p) (Numbers width)
+
+-- a count may be any number
+unfoldable pub count-cause : List ℕ → ℕ → Cause
+count-cause text at = cond (numbered 1 text at) Stuck (Numbers 1)

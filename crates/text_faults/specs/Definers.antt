@@ -4,34 +4,35 @@ use mathlib.Core.Path.{_≡_, refl, sym, ap, _∙_}
 use mathlib.Core.Bool.{Bool, true, false, _||_, cond}
 use mathlib.Core.List.{List}
 use native.Mathlib.Omega.{arith}
-use lib.ListN.{length, drop}
+use lib.ListN.{length}
 use lib.Dec.{ltb, eqb}
-use borrow.Author.Tests.{lt-ltb, le-ltb, ltb-true, eqb-true}
+use borrow.Author.Tests.{lt-ltb, le-ltb}
 use Rattle.meaning.specs.Circuit.{var}
-use Rattle.meaning.specs.Lines.{decimal}
-use Rattle.meaning.specs.CircuitText.{Header}
-use Rattle.lines.specs.Numbers.{capped, digits-of}
+use Rattle.text_faults.specs.declared.sizes.Sizes.{Sizes}
 use Rattle.text_faults.specs.declared.definers.Places.{Places}
-use Rattle.text_faults.specs.Places.{after-line, skip}
+use Rattle.text_faults.specs.Places.{after-line, skip, first-number}
 
--- the number that a line starts with; 0 where it starts with no digit
-unfoldable pub first-number : List ℕ → ℕ → ℕ
-first-number text at = decimal (digits-of (drop at text))
+-- past outputs, bad literals, constraints, counts, justice and fairness literals
+unfoldable pub past-properties : List ℕ → Sizes → ℕ → ℕ
+past-properties text s at =
+    skip (s .fairness) text
+    (skip (s .justice) text
+    (skip (s .counts) text (skip (s .constraints) text (skip (s .bads) text (skip (s .outputs) text at)))))
 
--- where the lines of inputs (and after them of latches), of outputs, of gates and of symbols start, by the header's counts
-unfoldable pub outputs-at : List ℕ → Header → ℕ → ℕ
-outputs-at text h next = skip (capped (h .l)) text (skip (capped (h .i)) text next)
+-- where the lines of inputs (and after them of latches), of outputs and what follows them, of gates and of symbols start
+unfoldable pub outputs-at : List ℕ → Sizes → ℕ → ℕ
+outputs-at text s next = skip (s .latches) text (skip (s .inputs) text next)
 
-unfoldable pub gates-at : List ℕ → Header → ℕ → ℕ
-gates-at text h next = skip (capped (h .o)) text (outputs-at text h next)
+unfoldable pub gates-at : List ℕ → Sizes → ℕ → ℕ
+gates-at text s next = past-properties text s (outputs-at text s next)
 
-unfoldable pub places-of : List ℕ → Header → ℕ → Places
-places-of text h next =
+unfoldable pub places-of : List ℕ → Sizes → ℕ → Places
+places-of text s next =
     record {
       inputs = next;
-      outputs = outputs-at text h next;
-      gates = gates-at text h next;
-      symbols = skip (capped (h .a)) text (gates-at text h next);
+      outputs = outputs-at text s next;
+      gates = gates-at text s next;
+      symbols = skip (s .gates) text (gates-at text s next);
     }
 
 pub record Inside (text : List ℕ) (p : Places) : Type 0 where
@@ -110,15 +111,25 @@ module _ (text : List ℕ) (u from to p : ℕ) (w : Walked text u from to p) (h 
 
 -- ---- laws of the places, and of the first line that defines a variable
 
-pub places-are : (text : List ℕ) (h : Header) (next vi vl vo va s₁ s₂ s₃ s₄ : ℕ) → vi ≡ capped (h .i) → vl ≡ capped (h .l)
-    → vo ≡ capped (h .o) → va ≡ capped (h .a) → s₁ ≡ skip vi text next → s₂ ≡ skip vl text s₁ → s₃ ≡ skip vo text s₂ → s₄ ≡ skip va text s₃
-    → _≡_ {A = Places} (record { inputs = next; outputs = s₂; gates = s₃; symbols = s₄ }) (places-of text h next)
+pub past-are : (text : List ℕ) (s : Sizes) (at s₁ s₂ s₃ s₄ s₅ s₆ : ℕ) → s₁ ≡ skip (s .outputs) text at → s₂ ≡ skip (s .bads) text s₁
+    → s₃ ≡ skip (s .constraints) text s₂ → s₄ ≡ skip (s .counts) text s₃ → s₅ ≡ skip (s .justice) text s₄ → s₆ ≡ skip (s .fairness) text s₅
+    → s₆ ≡ past-properties text s at
+unfolding past-properties
+past-are text s at s₁ s₂ s₃ s₄ s₅ s₆ e₁ e₂ e₃ e₄ e₅ e₆ =
+    let f₂ = e₂ ∙ ap (skip (s .bads) text) e₁ in
+    let f₃ = e₃ ∙ ap (skip (s .constraints) text) f₂ in
+    let f₄ = e₄ ∙ ap (skip (s .counts) text) f₃ in
+    let f₅ = e₅ ∙ ap (skip (s .justice) text) f₄ in
+    e₆ ∙ ap (skip (s .fairness) text) f₅
+
+pub places-are : (text : List ℕ) (s : Sizes) (next s₁ s₂ s₃ s₄ : ℕ) → s₁ ≡ skip (s .inputs) text next → s₂ ≡ skip (s .latches) text s₁
+    → s₃ ≡ past-properties text s s₂ → s₄ ≡ skip (s .gates) text s₃
+    → _≡_ {A = Places} (record { inputs = next; outputs = s₂; gates = s₃; symbols = s₄ }) (places-of text s next)
 unfolding places-of gates-at outputs-at
-places-are text h next vi vl vo va s₁ s₂ s₃ s₄ ei el eo ea e₁ e₂ e₃ e₄ =
-    let f₁ = e₁ ∙ ap (λ (n : ℕ). skip n text next) ei in
-    let f₂ = e₂ ∙ (λ k. skip (el k) text (f₁ k)) in
-    let f₃ = e₃ ∙ (λ k. skip (eo k) text (f₂ k)) in
-    let f₄ = e₄ ∙ (λ k. skip (ea k) text (f₃ k)) in
+places-are text s next s₁ s₂ s₃ s₄ e₁ e₂ e₃ e₄ =
+    let f₂ = e₂ ∙ ap (skip (s .latches) text) e₁ in
+    let f₃ = e₃ ∙ ap (past-properties text s) f₂ in
+    let f₄ = e₄ ∙ ap (skip (s .gates) text) f₃ in
     λ k. record { inputs = next; outputs = f₂ k; gates = f₃ k; symbols = f₄ k }
 
 module _ (text : List ℕ) (p : Places) (l at to found : ℕ) (ends : to ≡ min (p .outputs) at)

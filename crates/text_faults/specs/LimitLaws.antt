@@ -13,9 +13,9 @@ use Rattle.lines.specs.Numbers.{capped}
 use Rattle.lines.specs.Past.{first-word}
 use Rattle.symbols.specs.Symbols.{LineTo}
 use Rattle.text_faults.specs.declared.limits.Limit.{Limit}
-use Rattle.text_faults.specs.declared.limits.Limit.the-variants.{NoLatch, Latches, Width, Outputs, LongLemma, Nothing}
+use Rattle.text_faults.specs.declared.limits.Limit.the-variants.{NoLatch, Latches, Width, LongLemma, Clauses}
 use Rattle.text_faults.specs.Places.{count-of, line-number, after-line}
-use Rattle.text_faults.specs.Limits.{long-lemma, lemmas-limit, width-limit, header-limit}
+use Rattle.text_faults.specs.Limits.{long-lemma, property-limit, width-limit, header-limit}
 
 -- what stands before a byte is the start of the text
 until-start : (b : ℕ) (l : List ℕ) → take (length (until b l)) l ≡ until b l
@@ -44,11 +44,11 @@ pub record Sought (text : List ℕ) (p : ℕ) : Type 0 where
 pub seek-start : (text : List ℕ) → Sought text 0
 seek-start text = record { most = length text; enough = omega arith; is = refl }
 
-pub seek-done : {text : List ℕ} {p : ℕ} → Sought text p → (p < length text → ⊥) → Nothing ≡ long-lemma (length text) text 0
+pub seek-done : {text : List ℕ} {p : ℕ} → Sought text p → (p < length text → ⊥) → Clauses ≡ long-lemma (length text) text 0
 unfolding long-lemma
 seek-done {text} {p} w h = sym (w .is ∙ go (w .most))
   where
-    go : (n : ℕ) → long-lemma n text p ≡ Nothing
+    go : (n : ℕ) → long-lemma n text p ≡ Clauses
     go zero = refl
     go (suc n) = let le : length text ≤ p = omega (arith, h) in rw (le-ltb p (length text) le)
 
@@ -88,20 +88,16 @@ words-spaces (b ∷ l) = go (eqb b space) (first-word l) (words-spaces l)
 -- ---- limits by tests on numbers
 
 module _ (h : Header) (lemmas : List ℕ) where
-  module _ (i o a : ℕ) (ei : i ≡ capped (h .i)) (eo : o ≡ capped (h .o)) (ea : a ≡ capped (h .a)) where
-    by-counts : cond (ltb 320 (i + a)) (Width i a) (cond (eqb o 1) (lemmas-limit lemmas) (Outputs o)) ≡ width-limit h lemmas
+  module _ (i o a b : ℕ) (ei : i ≡ capped (h .i)) (eo : o ≡ capped (h .o)) (ea : a ≡ capped (h .a)) (eb : b ≡ capped (h .b)) where
+    by-counts : cond (ltb 320 (i + a)) (Width i a) (property-limit o b lemmas) ≡ width-limit h lemmas
     unfolding width-limit
-    by-counts = rw (ei, eo, ea)
+    by-counts = rw (ei, eo, ea, eb)
 
     pub is-wide : 320 < i + a → Width i a ≡ width-limit h lemmas
     is-wide e = sym (rw (lt-ltb 320 (i + a) e)) ∙ by-counts
 
-    module _ (narrow : i + a ≤ 320) where
-      pub is-outputs : (o ≡ 1 → ⊥) → Outputs o ≡ width-limit h lemmas
-      is-outputs e = sym (rw (le-ltb 320 (i + a) narrow, ne-eqb o 1 e)) ∙ by-counts
-
-      pub is-on : o ≡ 1 → (r : Limit) → r ≡ lemmas-limit lemmas → r ≡ width-limit h lemmas
-      is-on e r is = is ∙ sym (rw (le-ltb 320 (i + a) narrow, eq-eqb o 1 e)) ∙ by-counts
+    pub is-narrow : i + a ≤ 320 → (r : Limit) → r ≡ property-limit o b lemmas → r ≡ width-limit h lemmas
+    is-narrow e r is = is ∙ sym (rw (le-ltb 320 (i + a) e)) ∙ by-counts
 
   module _ (l : ℕ) (el : l ≡ capped (h .l)) where
     by-latches : cond (eqb l 0) NoLatch (cond (ltb 96 l) (Latches l) (width-limit h lemmas)) ≡ header-limit h lemmas

@@ -9,7 +9,8 @@ use lib.ListN.{length, take, drop, getD}
 use lib.Dec.{ltb, eqb}
 use lib.Seq.{drop-cons, drop-length}
 use borrow.Author.Tests.{eq-eqb, ne-eqb, le-ltb}
-use Rattle.meaning.specs.Lines.{newline, line-at, ended, next-line}
+use Rattle.meaning.specs.Lines.{newline, line-at, ended, next-line, decimal}
+use Rattle.lines.specs.Numbers.{digits-of}
 use Rattle.lines.specs.Past.{not-ended}
 use Rattle.symbols.specs.Symbols.{LineTo}
 use Rattle.symbols.specs.Walk.{is-closed, is-open, next-is}
@@ -31,6 +32,10 @@ after-line text at = cond (ended text at) (next-line text at) (length text)
 unfoldable pub skip : ℕ → List ℕ → ℕ → ℕ
 skip zero text at = at
 skip (suc count) text at = skip count text (after-line text at)
+
+-- the number that a line starts with; 0 where it starts with no digit
+unfoldable pub first-number : List ℕ → ℕ → ℕ
+first-number text at = decimal (digits-of (drop at text))
 
 -- ---- laws
 

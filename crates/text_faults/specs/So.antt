@@ -10,24 +10,30 @@ use lib.Dec.{ltb, leb, eqb}
 use borrow.Author.Tests.{not-true, ltb-true, ltb-false, leb-true, leb-false, eqb-true, eqb-false, lt-ltb}
 use Rattle.meaning.specs.Circuit.{var}
 use Rattle.meaning.specs.Lines.{line-at, ended, next-line, of-numbers}
-use Rattle.meaning.specs.CircuitText.{Header, header-of, used-right, numbers-at}
+use Rattle.meaning.specs.CircuitText.{Header, header-of, used-right, latch-form, start-right, numbers-at}
 use Rattle.laws.specs.Basics.{and-right, bool-cases}
 use Rattle.symbols.specs.Symbols.{header-from, named-right}
 use Rattle.circuit_text.specs.Header.{starts, header-test, test-is}
 use Rattle.text_faults.specs.declared.kind.Kind.{Kind}
-use Rattle.text_faults.specs.declared.kind.Kind.the-variants.{Header as HeaderLine, Input, Latch, Output, Gate, Symbol}
+use Rattle.text_faults.specs.declared.kind.Kind.the-variants.{Header as HeaderLine, Input, Latch, Output, Bad, Constraint, Count, Justice, Fairness, Gate, Symbol}
+use Rattle.text_faults.specs.declared.sizes.Sizes.{Sizes}
 use Rattle.text_faults.specs.declared.definers.Places.{Places}
 use Rattle.text_faults.specs.declared.cause.Cause.{Cause}
-use Rattle.text_faults.specs.declared.cause.Cause.the-variants.{Missing, Open, NoAag, HeaderNumbers, HeaderSum, Numbers, Reset, Odd, Small, Range, Twice, Undefined, Stuck, SymbolForm, SymbolRange, SymbolTwice}
-use Rattle.text_faults.specs.Places.{line-number, after-line}
+use Rattle.text_faults.specs.declared.cause.Cause.the-variants.{Missing, Open, NoAag, HeaderNumbers, HeaderSum, Numbers, LatchNumbers, Reset, Start, Odd, Small, Range, Twice, Undefined, Stuck, SymbolForm, SymbolRange, SymbolTwice}
+use Rattle.text_faults.specs.Places.{line-number, after-line, first-number}
+use Rattle.text_faults.specs.Sizes.{sizes-of}
 use Rattle.text_faults.specs.Kinds.{kind-of}
-use Rattle.text_faults.specs.Definers.{first-number, places-of, known-here, definer, earlier-by, earlier}
-use Rattle.text_faults.specs.Causes.{numbered, header-cause, numbers-cause, out, unknown-at, later-cause, uses-cause, twice-cause, after-ranges, range-cause, defined-cause, literals-cause}
-use Rattle.text_faults.specs.Circuits.{any-count, counts-of, symbol-cause, form-cause, closed-cause, line-cause, header-fault, circuit-fault}
+use Rattle.text_faults.specs.Definers.{places-of, known-here, definer, earlier-by, earlier}
+use Rattle.text_faults.specs.Causes.{numbered, five-to-nine, header-cause, out, unknown-at, later-cause, uses-cause, twice-cause, after-ranges, range-cause, defined-cause, literals-cause, form-cause, count-cause}
+use Rattle.text_faults.specs.Latches.{start-cause, third-cause, latch-numbers, latch-cause}
+use Rattle.text_faults.specs.Circuits.{any-count, counts-of, symbol-cause, closed-cause, line-cause, header-fault, circuit-fault}
 
--- the header of a text, and number j of a line, counted from 1
+-- the header of a text, how many lines of each kind it should have, and number j of a line, counted from 1
 abbrev pub header : List ℕ → Header
 header text = header-of (line-at text 0)
+
+abbrev pub sizes : List ℕ → Sizes
+sizes text = sizes-of text (header text) (next-line text 0)
 
 abbrev pub number : List ℕ → ℕ → ℕ → ℕ
 number text at j = getD (numbers-at text at) (j - 1) 0
@@ -37,19 +43,21 @@ abbrev pub So : List ℕ → ℕ → Cause → Type 0
 So text at Missing = length text ≤ at
 So text at Open = ended text at ≡ false
 So text at NoAag = starts text ≡ false
-So text at HeaderNumbers = numbered 5 text 4 ≡ false
+So text at HeaderNumbers = five-to-nine text ≡ false
 So text at HeaderSum = header text .m < header text .i + header text .l + header text .a
 So text at (Numbers width) = numbered width text at ≡ false
-So text at Reset = of-numbers 3 (line-at text at) ≡ true
+So text at LatchNumbers = (numbered 2 text at ≡ false) × (numbered 3 text at ≡ false)
+So text at Reset = (of-numbers 3 (line-at text at) ≡ true) × (header text .newer ≡ false)
+So text at Start = (of-numbers 3 (line-at text at) ≡ true) × (start-right (latch-form true) (numbers-at text at) ≡ false)
 So text at Odd = eqb (number text at 1 % 2) 0 ≡ false
 So text at Small = number text at 1 < 2
 So text at (Range j) = used-right (header text .m) (number text at j) ≡ false
 So text at (Twice p) = (p < at) × (var (number text at 1) ≡ var (first-number text p))
-So text at (Undefined j) = known-here text (places-of text (header text) (next-line text 0)) (number text at j) ≡ false
+So text at (Undefined j) = known-here text (places-of text (sizes text) (next-line text 0)) (number text at j) ≡ false
 So text at Stuck = Unit {0}
 So text at SymbolForm = named-right (header-from any-count) (line-at text at) ≡ false
-So text at SymbolRange = named-right (header-from (counts-of (header text))) (line-at text at) ≡ false
-So text at SymbolTwice = named-right (header-from (counts-of (header text))) (line-at text at) ≡ true
+So text at SymbolRange = named-right (header-from (counts-of (sizes text))) (line-at text at) ≡ false
+So text at SymbolTwice = named-right (header-from (counts-of (sizes text))) (line-at text at) ≡ true
 
 -- ---- the walk
 
@@ -107,7 +115,7 @@ module _ (text : List ℕ) (at : ℕ) where
   by-test false x y holds fails = fails refl
 
   abbrev places : Places
-  places = places-of text (header text) (next-line text 0)
+  places = places-of text (sizes text) (next-line text 0)
 
   module _ (width : ℕ) where
     unknown-so : (j : ℕ) → unknown-at text at width j places ≡ true → known-here text places (getD (numbers-at text at) j 0) ≡ false
@@ -157,41 +165,49 @@ module _ (text : List ℕ) (at : ℕ) where
         (λ f. f))
         (λ e. ranges-so defines)
 
-    form-so : (kind : Kind) (defines : Bool) → Told (form-cause text at kind width defines (header text) (next-line text 0))
+    form-so : (defines : Bool) → Told (form-cause text at width defines (header text .m) places)
     unfolding form-cause
-    form-so kind defines = by-test (numbered width text at) _ _ (λ e. literals-so defines) (λ e. numbers-so kind e)
-      where
-        numbers-so : (k : Kind) → numbered width text at ≡ false → Told (numbers-cause k width text at)
-        numbers-so Latch e =
-            by-test (numbered 3 text at) _ _ (λ f. numbers-of 3 text at f) (λ f. e)
-        numbers-so HeaderLine e = e
-        numbers-so Input e = e
-        numbers-so Output e = e
-        numbers-so Gate e = e
-        numbers-so Symbol e = e
+    form-so defines = by-test (numbered width text at) _ _ (λ e. literals-so defines) (λ e. e)
 
-  closed-so : (kind : Kind) → Told (closed-cause text at kind (header text) (next-line text 0))
-  unfolding symbol-cause
+  latch-so : Told (latch-cause text at (header text .newer) (header text .m) places)
+  unfolding latch-cause third-cause start-cause latch-numbers
+  latch-so =
+      by-test (numbered 2 text at) _ _ (λ e. literals-so 2 true)
+      (λ e.
+      by-test (numbered 3 text at) _ _
+      (λ f.
+      by-test (header text .newer) _ _
+      (λ g. by-test (start-right (latch-form true) (numbers-at text at)) _ _ (λ h. literals-so 2 true) (λ h. (numbers-of 3 text at f, h)))
+      (λ g. (numbers-of 3 text at f, g)))
+      (λ f. by-test (header text .newer) _ _ (λ g. (e, f)) (λ g. e)))
+
+  closed-so : (kind : Kind) → Told (closed-cause text at kind (header text) (sizes text) (next-line text 0))
+  unfolding symbol-cause count-cause
   closed-so HeaderLine = tt
-  closed-so Input = form-so 1 Input true
-  closed-so Latch = form-so 2 Latch true
-  closed-so Output = form-so 1 Output false
-  closed-so Gate = form-so 3 Gate true
+  closed-so Input = form-so 1 true
+  closed-so Latch = latch-so
+  closed-so Output = form-so 1 false
+  closed-so Bad = form-so 1 false
+  closed-so Constraint = form-so 1 false
+  closed-so Count = by-test (numbered 1 text at) _ _ (λ e. tt) (λ e. e)
+  closed-so Justice = form-so 1 false
+  closed-so Fairness = form-so 1 false
+  closed-so Gate = form-so 3 true
   closed-so Symbol =
       by-test (named-right (header-from any-count) (line-at text at)) _ _
-      (λ e. by-test (named-right (header-from (counts-of (header text))) (line-at text at)) _ _ (λ f. f) (λ f. f))
+      (λ e. by-test (named-right (header-from (counts-of (sizes text))) (line-at text at)) _ _ (λ f. f) (λ f. f))
       (λ e. e)
 
-  line-so : (kind : Kind) → Told (line-cause text at kind (header text) (next-line text 0))
+  line-so : (kind : Kind) → Told (line-cause text at kind (header text) (sizes text) (next-line text 0))
   unfolding line-cause
   line-so kind =
       by-test (leb (length text) at) _ _ (λ e. leb-true (length text) at e)
       (λ e. by-test (ended text at) _ _ (λ f. closed-so kind) (λ f. f))
 
--- a header that is not right, though 'aag' and five numbers stand there, has too large a sum
-sum-over : (text : List ℕ) → header-test text ≡ false → starts text ≡ true → numbered 5 text 4 ≡ true
+-- a header that is not right, though 'aag' and five to nine numbers stand there, has too large a sum
+sum-over : (text : List ℕ) → header-test text ≡ false → starts text ≡ true → five-to-nine text ≡ true
     → header text .m < header text .i + header text .l + header text .a
-unfolding numbered
+unfolding five-to-nine
 sum-over text wrong start five =
     leb-false _ _ (sym (test-is text start ∙ (rw five)) ∙ wrong)
 
@@ -203,7 +219,7 @@ header-so text wrong =
     by-test text 0 (starts text) _ _
     (λ g.
     by-test text 0 (ended text 0) _ _
-    (λ f. by-test text 0 (numbered 5 text 4) _ _ (λ h. sum-over text wrong g h) (λ h. h))
+    (λ f. by-test text 0 (five-to-nine text) _ _ (λ h. sum-over text wrong g h) (λ h. h))
     (λ f. f))
     (λ g. g))
 
@@ -213,5 +229,5 @@ unfolding circuit-fault
 told-so text at first = go (bool-cases (header-test text))
   where
     go : (header-test text ≡ true) ⊎ (header-test text ≡ false) → So text at (circuit-fault text at .cause)
-    go (inl t) = rw t (line-so text at (kind-of (header text) (line-number text at)))
+    go (inl t) = rw t (line-so text at (kind-of (sizes text) (line-number text at)))
     go (inr t) = rw t (rw (first t) (header-so text t))

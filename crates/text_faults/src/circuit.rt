@@ -1,28 +1,28 @@
 // What is wrong with the line of a circuit text at a place.
 use crate::cause::Cause;
+use crate::cause::count_cause;
+use crate::cause::form_cause;
 use crate::cause::header_cause;
-use crate::cause::literals_cause;
-use crate::cause::numbered;
-use crate::cause::numbers_cause;
 use crate::definers::places_of;
 use crate::kind::Kind;
 use crate::kind::kind_of;
+use crate::latch::latch_cause;
 use crate::places::line_number;
+use crate::sizes::Sizes;
+use crate::sizes::sizes_of;
 use circuit_text::header::Header;
 use circuit_text::header::read_header;
-use sections::line::Form;
 use symbols::Counts;
 use symbols::line::line_end;
 use symbols::symbol::named_right;
 ghost use mathlib.Core.Path.{_≡_};
 ghost use mathlib.Core.Bool.{true};
-ghost use Prim.Native.Nat.{_<_, _≤_};
+ghost use Prim.Native.Nat.{_<_};
 ghost use lib.ListN.{length};
 ghost use Rattle.meaning.specs.Lines.{ended};
-ghost use Rattle.circuit_text.specs.Header.{Parts};
-ghost use Rattle.circuit_text.specs.Read.{«header-at»};
-ghost use Rattle.lines.specs.Numbers.{capped};
-ghost use Rattle.text_faults.specs.Circuits.{«below-huge», «symbol-cause», «form-cause», «closed-cause», «line-cause», «header-fault», «circuit-fault», «latches-of»};
+ghost use Rattle.circuit_text.specs.Header.{Parts, «header-at»};
+ghost use Rattle.symbols.specs.Symbols.{Small};
+ghost use Rattle.text_faults.specs.Circuits.{«below-huge», «counts-of», «symbol-cause», «closed-cause», «line-cause», «header-fault», «circuit-fault», «latches-of»};
 
 // The kind of a line, and why it is refused.
 pub struct Fault {
@@ -40,12 +40,26 @@ fn below_huge(n: usize) -> usize
     18446744073709551609
 }
 
+// How many positions each letter has.
+fn counts_of(s: Sizes) -> Counts
+    ensures { λ r. ⌜ (r ≡ «counts-of» s) × Small r ⌝ }
+{
+    Counts {
+        i: below_huge(s.inputs),
+        l: below_huge(s.latches),
+        o: below_huge(s.outputs),
+        b: below_huge(s.bads),
+        c: below_huge(s.constraints),
+        j: below_huge(s.counts),
+        f: below_huge(s.fairness),
+    }
+}
+
 // A symbol line: its form, its position; else the position was named before.
-fn symbol_cause(text: &[u8], at: usize, h: Header) -> Cause
-    requires { ⌜ Parts (now text) h ⌝ }
+fn symbol_cause(text: &[u8], at: usize, s: Sizes) -> Cause
     requires { ⌜ at < length (now text) ⌝ }
     requires { ⌜ ended (now text) at ≡ true ⌝ }
-    ensures { λ r. ⌜ r ≡ «symbol-cause» (now (text .entry)) at («header-at» (now (text .entry)) h) ⌝ }
+    ensures { λ r. ⌜ r ≡ «symbol-cause» (now (text .entry)) at s ⌝ }
 {
     let end = line_end(text, at);
     let most = 18446744073709551609;
@@ -53,96 +67,49 @@ fn symbol_cause(text: &[u8], at: usize, h: Header) -> Cause
         i: most,
         l: most,
         o: most,
+        b: most,
+        c: most,
+        j: most,
+        f: most,
     };
     if !named_right(text, any, at, end) {
         return Cause::SymbolForm;
     }
-    let i = h.i;
-    let l = h.l;
-    let o = h.o;
-    let counts = Counts {
-        i: below_huge(i.value),
-        l: below_huge(l.value),
-        o: below_huge(o.value),
-    };
+    let counts = counts_of(s);
     if !named_right(text, counts, at, end) {
         return Cause::SymbolRange;
     }
     Cause::SymbolTwice
 }
 
-// A line of numbers.
-fn form_cause(text: &[u8], at: usize, kind: Kind, form: Form, h: Header) -> Cause
-    requires { ⌜ Parts (now text) h ⌝ }
-    requires { ⌜ at < length (now text) ⌝ }
-    requires { ⌜ 1 ≤ form .width ⌝ }
-    ensures { λ r. ⌜ r ≡ «form-cause» (now (text .entry)) at kind (form .width) (form .defines) («header-at» (now (text .entry)) h) (h .next) ⌝ }
-{
-    let width = form.width;
-    if !numbered(text, at, width) {
-        return numbers_cause(text, at, kind, width);
-    }
-    let m = h.m;
-    literals_cause(text, at, form, m, places_of(text, h))
-}
-
 // A line that is ended.
-fn closed_cause(text: &[u8], at: usize, kind: Kind, h: Header) -> Cause
+fn closed_cause(text: &[u8], at: usize, kind: Kind, h: Header, s: Sizes) -> Cause
     requires { ⌜ Parts (now text) h ⌝ }
     requires { ⌜ at < length (now text) ⌝ }
     requires { ⌜ ended (now text) at ≡ true ⌝ }
-    ensures { λ r. ⌜ r ≡ «closed-cause» (now (text .entry)) at kind («header-at» (now (text .entry)) h) (h .next) ⌝ }
+    ensures { λ r. ⌜ r ≡ «closed-cause» (now (text .entry)) at kind («header-at» (now (text .entry)) h) s (h .next) ⌝ }
 {
+    let m = h.m;
+    let p = places_of(text, s, h.next);
     match kind {
         Kind::Header => Cause::Stuck,
-        Kind::Input => form_cause(
-            text,
-            at,
-            kind,
-            Form {
-                width: 1,
-                defines: true,
-            },
-            h,
-        ),
-        Kind::Latch => form_cause(
-            text,
-            at,
-            kind,
-            Form {
-                width: 2,
-                defines: true,
-            },
-            h,
-        ),
-        Kind::Output => form_cause(
-            text,
-            at,
-            kind,
-            Form {
-                width: 1,
-                defines: false,
-            },
-            h,
-        ),
-        Kind::Gate => form_cause(
-            text,
-            at,
-            kind,
-            Form {
-                width: 3,
-                defines: true,
-            },
-            h,
-        ),
-        Kind::Symbol => symbol_cause(text, at, h),
+        Kind::Input => form_cause(text, at, 1, true, m, p),
+        Kind::Latch => latch_cause(text, at, h.newer, m, p),
+        Kind::Output => form_cause(text, at, 1, false, m, p),
+        Kind::Bad => form_cause(text, at, 1, false, m, p),
+        Kind::Constraint => form_cause(text, at, 1, false, m, p),
+        Kind::Count => count_cause(text, at),
+        Kind::Justice => form_cause(text, at, 1, false, m, p),
+        Kind::Fairness => form_cause(text, at, 1, false, m, p),
+        Kind::Gate => form_cause(text, at, 3, true, m, p),
+        Kind::Symbol => symbol_cause(text, at, s),
     }
 }
 
 // A line under a header that is right.
-fn line_cause(text: &[u8], at: usize, kind: Kind, h: Header) -> Cause
+fn line_cause(text: &[u8], at: usize, kind: Kind, h: Header, s: Sizes) -> Cause
     requires { ⌜ Parts (now text) h ⌝ }
-    ensures { λ r. ⌜ r ≡ «line-cause» (now (text .entry)) at kind («header-at» (now (text .entry)) h) (h .next) ⌝ }
+    ensures { λ r. ⌜ r ≡ «line-cause» (now (text .entry)) at kind («header-at» (now (text .entry)) h) s (h .next) ⌝ }
 {
     if text.len() <= at {
         return Cause::Missing;
@@ -150,7 +117,7 @@ fn line_cause(text: &[u8], at: usize, kind: Kind, h: Header) -> Cause
     if text.len() <= line_end(text, at) {
         return Cause::Open;
     }
-    closed_cause(text, at, kind, h)
+    closed_cause(text, at, kind, h, s)
 }
 
 // A header that is not right, or missing.
@@ -177,10 +144,11 @@ pub fn circuit_fault(text: &[u8], at: usize) -> Fault
     if !h.right {
         return header_fault(text);
     }
-    let kind = kind_of(text, h, line_number(text, at));
+    let s = sizes_of(text, h);
+    let kind = kind_of(s, line_number(text, at));
     Fault {
         kind,
-        cause: line_cause(text, at, kind, h),
+        cause: line_cause(text, at, kind, h, s),
     }
 }
 

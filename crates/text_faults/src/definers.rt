@@ -1,7 +1,7 @@
 // The lines that define a variable, as far as lines start with a number.
 use crate::places::after_line;
 use crate::places::skip;
-use circuit_text::header::Header;
+use crate::sizes::Sizes;
 use lines::literal::same_variable;
 use lines::number::Number;
 use lines::number::number_at;
@@ -10,11 +10,9 @@ ghost use Prim.Native.Nat.{_<_, _≤_, min};
 ghost use lib.ListN.{length};
 ghost use Rattle.meaning.specs.Circuit.{var};
 ghost use Rattle.lines.specs.Numbers.{Stands, worth};
-ghost use Rattle.circuit_text.specs.Header.{Parts};
-ghost use Rattle.circuit_text.specs.Read.{«header-at»};
-ghost use Rattle.text_faults.specs.Definers.{definer, Inside, «places-of», «known-here», earlier};
+ghost use Rattle.text_faults.specs.Definers.{definer, Inside, «past-properties», «places-of», «known-here», earlier};
 
-// Where the lines of inputs (and after them of latches), of outputs, of gates and of symbols start.
+// Where the lines of inputs (and after them of latches), of outputs and what follows them, of gates and of symbols start.
 pub struct Places {
     pub inputs: usize,
     pub outputs: usize,
@@ -22,21 +20,33 @@ pub struct Places {
     pub symbols: usize,
 }
 
-// By the counts of the header.
-pub fn places_of(text: &[u8], h: Header) -> Places
-    requires { ⌜ Parts (now text) h ⌝ }
-    ensures { λ r. ⌜ (r ≡ «places-of» (now (text .entry)) («header-at» (now (text .entry)) h) (h .next)) × Inside (now (text .entry)) r ⌝ }
+// Past outputs, bad literals, constraints, counts, justice and fairness literals.
+fn past_properties(text: &[u8], s: Sizes, at: usize) -> usize
+    requires { ⌜ at ≤ length (now text) ⌝ }
+    ensures { λ r. ⌜ (r ≡ «past-properties» (now (text .entry)) s at) × (r ≤ length (now (text .entry))) ⌝ }
 {
-    let i = h.i;
-    let l = h.l;
-    let o = h.o;
-    let a = h.a;
-    let inputs = h.next;
-    let outputs = skip(text, skip(text, inputs, i.value), l.value);
-    let gates = skip(text, outputs, o.value);
-    let symbols = skip(text, gates, a.value);
+    let counts = skip(
+        text,
+        skip(text, skip(text, at, s.outputs), s.bads),
+        s.constraints,
+    );
+    skip(
+        text,
+        skip(text, skip(text, counts, s.counts), s.justice),
+        s.fairness,
+    )
+}
+
+// By how many there are of each kind, from the first input on.
+pub fn places_of(text: &[u8], s: Sizes, next: usize) -> Places
+    requires { ⌜ next ≤ length (now text) ⌝ }
+    ensures { λ r. ⌜ (r ≡ «places-of» (now (text .entry)) s next) × Inside (now (text .entry)) r ⌝ }
+{
+    let outputs = skip(text, skip(text, next, s.inputs), s.latches);
+    let gates = past_properties(text, s, outputs);
+    let symbols = skip(text, gates, s.gates);
     Places {
-        inputs,
+        inputs: next,
         outputs,
         gates,
         symbols,

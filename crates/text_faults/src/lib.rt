@@ -3,7 +3,10 @@
 pub mod cause; // why a line of a circuit text is refused
 pub mod circuit; // the line of a circuit text at a place
 pub mod definers; // which lines define a variable
-pub mod kind; // header, input, latch, output, gate or symbol
+pub mod kind; // header, input, latch, output and so on to symbol
+mod latch; // why a latch line is refused
 pub mod lemmas; // the line of a lemma text at a place
 pub mod limits; // which limit two texts are over
+pub mod liveness; // how many justice and fairness properties a circuit text has
 pub mod places; // where lines are
+pub mod sizes; // how many lines of each kind

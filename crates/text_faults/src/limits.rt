@@ -9,10 +9,9 @@ ghost use mathlib.Core.Path.{_≡_};
 ghost use Prim.Native.Nat.{_<_, _≤_};
 ghost use lib.ListN.{length};
 ghost use Rattle.meaning.specs.Lines.{«line-at»};
-ghost use Rattle.circuit_text.specs.Header.{Parts};
-ghost use Rattle.circuit_text.specs.Read.{«header-at»};
+ghost use Rattle.circuit_text.specs.Header.{Parts, «header-at»};
 ghost use Rattle.text_faults.specs.Places.{«count-of»};
-ghost use Rattle.text_faults.specs.Limits.{«long-lemma», «lemmas-limit», «width-limit», «header-limit», «limit-of»};
+ghost use Rattle.text_faults.specs.Limits.{«long-lemma», «lemmas-limit», «bads-limit», «property-limit», «width-limit», «header-limit», «limit-of»};
 
 // The limit, and what was met.
 pub enum Limit {
@@ -21,10 +20,14 @@ pub enum Limit {
     NoLatch, // no latch
     Latches(usize), // more than 96
     Width(usize, usize), // inputs and gates: more than 320 together
-    Outputs(usize), // other than one
+    NoBad, // no bad literal and no output
+    Outputs(usize), // more than one, and no bad literal
+    Bads(usize), // bad literals: more than one, and no output
+    Both(usize, usize), // outputs and bad literals: some of each
     Lemmas(usize), // more than 128
     LongLemma(usize, usize), // the lemma of this line has so many literals: more than 64
-    Nothing, // none of these
+    Clauses, // none of these: more than 4,096 clauses
+    Nothing, // no header
 }
 
 // How many spaces a line has: as many as literals, where it is a lemma.
@@ -36,7 +39,7 @@ fn spaces(text: &[u8], at: usize) -> usize
     count_byte(&text[at..end], 32)
 }
 
-// The first lemma of more than 64 literals.
+// The first lemma of more than 64 literals; where there is none, the clauses are what is left.
 fn long_lemma(text: &[u8]) -> Limit
     ensures { λ r. ⌜ r ≡ «long-lemma» (length (now (text .entry))) (now (text .entry)) 0 ⌝ }
 {
@@ -48,7 +51,7 @@ fn long_lemma(text: &[u8]) -> Limit
         }
         p = after_line(text, p);
     }
-    Limit::Nothing
+    Limit::Clauses
 }
 
 // How many lemmas there are, and their lengths.
@@ -62,7 +65,36 @@ fn lemmas_limit(lemmas: &[u8]) -> Limit
     long_lemma(lemmas)
 }
 
-// Inputs and gates, then the outputs, then the lemmas.
+// No output, and so many bad literals; then the lemmas.
+fn bads_limit(bads: usize, lemmas: &[u8]) -> Limit
+    ensures { λ r. ⌜ r ≡ «bads-limit» bads (now (lemmas .entry)) ⌝ }
+{
+    if bads == 0 {
+        return Limit::NoBad;
+    }
+    if bads != 1 {
+        return Limit::Bads(bads);
+    }
+    lemmas_limit(lemmas)
+}
+
+// Outputs and bad literals, then the lemmas.
+fn property_limit(outputs: usize, bads: usize, lemmas: &[u8]) -> Limit
+    ensures { λ r. ⌜ r ≡ «property-limit» outputs bads (now (lemmas .entry)) ⌝ }
+{
+    if outputs == 0 {
+        return bads_limit(bads, lemmas);
+    }
+    if bads != 0 {
+        return Limit::Both(outputs, bads);
+    }
+    if outputs != 1 {
+        return Limit::Outputs(outputs);
+    }
+    lemmas_limit(lemmas)
+}
+
+// Inputs and gates, then outputs and bad literals, then the lemmas.
 fn width_limit(text: &[u8], h: Header, lemmas: &[u8]) -> Limit
     requires { ⌜ Parts (now text) h ⌝ }
     ensures { λ r. ⌜ r ≡ «width-limit» («header-at» (now (text .entry)) h) (now (lemmas .entry)) ⌝ }
@@ -70,16 +102,14 @@ fn width_limit(text: &[u8], h: Header, lemmas: &[u8]) -> Limit
     let i = h.i;
     let o = h.o;
     let a = h.a;
+    let b = h.b;
     if 320 < i.value {
         return Limit::Width(i.value, a.value);
     }
     if 320 - i.value < a.value {
         return Limit::Width(i.value, a.value);
     }
-    if o.value != 1 {
-        return Limit::Outputs(o.value);
-    }
-    lemmas_limit(lemmas)
+    property_limit(o.value, b.value, lemmas)
 }
 
 // The latches, then the rest.
@@ -97,7 +127,7 @@ fn header_limit(text: &[u8], h: Header, lemmas: &[u8]) -> Limit
     width_limit(text, h, lemmas)
 }
 
-// The first limit that the texts are over, in the order of the list.
+// The first limit that the texts are over, in the order of the list; the clauses, which are not counted here, where no other is.
 pub fn limit_of(text: &[u8], lemmas: &[u8]) -> Limit
     ensures { λ r. ⌜ r ≡ «limit-of» (now (text .entry)) (now (lemmas .entry)) ⌝ }
 {

@@ -1,4 +1,4 @@
--- 13 in plain words: the text, the line and its place, what is wrong with it, and the line itself.
+-- Refusals in plain words: of 13 the text, the line and its place, what is wrong with it, and the line itself.
 use Prim.Native.Nat.{ℕ}
 use mathlib.Core.Bool.{Bool, cond}
 use mathlib.Core.List.{List, [], _++_}
@@ -13,8 +13,10 @@ use Rattle.text_faults.specs.Places.{line-number}
 use Rattle.text_faults.specs.Circuits.{circuit-fault, latches-of}
 use Rattle.text_faults.specs.Lemmas.{lemma-cause}
 use Rattle.text_faults.specs.Limits.{limit-of}
+use Rattle.text_faults.specs.Liveness.{liveness-of}
 use Rattle.told_texts.specs.Causes.{kind-text, cause-text, lemma-cause-text}
 use Rattle.told_texts.specs.Limits.{limit-line}
+use Rattle.told_texts.specs.Liveness.{liveness-line}
 
 -- the place, and the text by its name
 unfoldable pub place-text : List ℕ → ℕ → List ℕ → List ℕ → List ℕ
@@ -40,8 +42,9 @@ unfoldable pub lemma-line : List ℕ → List ℕ → List ℕ → ℕ → List 
 lemma-line name circuit text place =
     place-text text place (ascii "lemmas ") name ++ (ascii ": " ++ lemma-text (latches-of circuit) text place (line-shown text place))
 
--- a refusal of two texts, by its number and place: 13 of the circuit if it is the first that is at fault, 13 of the lemmas, or 14
+-- a refusal of two texts, by its number and place: 13 of the circuit if it is the first that is at fault, 13 of the lemmas, 15, or 14
 unfoldable pub text-refusal : List ℕ → List ℕ → List ℕ → List ℕ → ℕ → ℕ → Bool → List ℕ
 text-refusal name circuit other lemmas number place first =
-    cond (eqb number 13) (cond first (circuit-line name circuit place) (lemma-line other circuit lemmas place))
-    (limit-line name other (limit-of circuit lemmas))
+    cond (eqb number 15) (liveness-line name (liveness-of circuit))
+    (cond (eqb number 13) (cond first (circuit-line name circuit place) (lemma-line other circuit lemmas place))
+    (limit-line name other (limit-of circuit lemmas)))

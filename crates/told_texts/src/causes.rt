@@ -17,6 +17,11 @@ pub fn put_kind(out: &mut [u8], at: usize, kind: Kind) -> usize
         Kind::Input => put_all(out, at, b", an input: "),
         Kind::Latch => put_all(out, at, b", a latch: "),
         Kind::Output => put_all(out, at, b", an output: "),
+        Kind::Bad => put_all(out, at, b", a bad literal: "),
+        Kind::Constraint => put_all(out, at, b", a constraint: "),
+        Kind::Count => put_all(out, at, b", the count of a justice property: "),
+        Kind::Justice => put_all(out, at, b", a literal of a justice property: "),
+        Kind::Fairness => put_all(out, at, b", a fairness literal: "),
         Kind::Gate => put_all(out, at, b", a gate: "),
         Kind::Symbol => put_all(out, at, b", after the gates: "),
     }
@@ -41,7 +46,7 @@ pub fn put_cause(out: &mut [u8], at: usize, text: &[u8], cause: Cause) -> usize
         Cause::HeaderNumbers => put_all(
             out,
             at,
-            b"aag is not followed by five numbers, M I L O A, with one space before each and nothing else; more numbers are of AIGER 1.9, which is not read\n",
+            b"aag is not followed by five to nine numbers (M I L O A, or M I L O A B C J F with the last of them left out where they are 0), with one space before each and nothing else\n",
         ),
         Cause::HeaderSum => put_all(
             out,
@@ -56,10 +61,20 @@ pub fn put_cause(out: &mut [u8], at: usize, text: &[u8], cause: Cause) -> usize
             0,
             0,
         ),
+        Cause::LatchNumbers => put_all(
+            out,
+            at,
+            b"numbers wanted: two, or three with its start value, of digits alone, with one space between two and nothing else on the line\n",
+        ),
         Cause::Reset => put_all(
             out,
             at,
-            b"three numbers, the third for its first value, but every latch starts at 0 here (where yosys writes it: write_aiger -zinit)\n",
+            b"a third number, its start value, under a header of five numbers: give the header a sixth, aag M I L O A 0, and the text is of AIGER 1.9, which has start values (or have yosys start every latch at 0: write_aiger -zinit)\n",
+        ),
+        Cause::Start => put_all(
+            out,
+            at,
+            b"the third number, its start value, is not 0, 1 or the literal of the latch itself (0 and 1: it starts at that value; its own literal: at either)\n",
         ),
         Cause::Odd => put_all(
             out,
@@ -103,12 +118,12 @@ pub fn put_cause(out: &mut [u8], at: usize, text: &[u8], cause: Cause) -> usize
         Cause::SymbolForm => put_all(
             out,
             at,
-            b"neither a symbol (i, l or o, at once a position below I, L or O, a space and a name) nor the line c\n",
+            b"neither a symbol (i, l, o, b, c, j or f, at once a position below I, L, O, B, C, J or F, a space and a name) nor the line c\n",
         ),
         Cause::SymbolRange => put_all(
             out,
             at,
-            b"there is no such position: inputs, latches and outputs are counted from 0\n",
+            b"there is no such position: positions are counted from 0, and a letter has as many as the header says (i I, l L, o O, b B, c C, j J, f F), none where it leaves that number out\n",
         ),
         Cause::SymbolTwice => put_all(out, at, b"an earlier line names this position\n"),
     }

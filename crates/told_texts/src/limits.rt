@@ -17,9 +17,13 @@ fn of_lemmas(limit: Limit) -> bool
         Limit::NoLatch => false,
         Limit::Latches(_) => false,
         Limit::Width(_, _) => false,
+        Limit::NoBad => false,
         Limit::Outputs(_) => false,
+        Limit::Bads(_) => false,
+        Limit::Both(_, _) => false,
         Limit::Lemmas(_) => true,
         Limit::LongLemma(_, _) => true,
+        Limit::Clauses => false,
         Limit::Nothing => false,
     }
 }
@@ -60,12 +64,33 @@ fn put_limit(out: &mut [u8], at: usize, limit: Limit) -> usize
             gates as u64,
             0,
         ),
+        Limit::NoBad => put_all(
+            out,
+            at,
+            b": no bad literal and no output, so nothing says which states are bad: write an assert, or give the top module one output port that is 1 in a bad state\n",
+        ),
         Limit::Outputs(met) => put_filled(
             out,
             at,
-            b": outputs: #, but one is wanted, which is 1 in a bad state\n",
+            b": outputs: #, but one is wanted, which is 1 in a bad state: keep that output port alone in the top module\n",
             met as u64,
             0,
+            0,
+        ),
+        Limit::Bads(met) => put_filled(
+            out,
+            at,
+            b": bad literals: #, but one is wanted: join the asserts into one, assert (a && b)\n",
+            met as u64,
+            0,
+            0,
+        ),
+        Limit::Both(outputs, bads) => put_filled(
+            out,
+            at,
+            b": outputs: #, bad literals: #, but one of both together is wanted: take the output ports out of the top module, or the assert\n",
+            outputs as u64,
+            bads as u64,
             0,
         ),
         Limit::Lemmas(met) => put_filled(
@@ -83,6 +108,11 @@ fn put_limit(out: &mut [u8], at: usize, limit: Limit) -> usize
             line as u64,
             met as u64,
             0,
+        ),
+        Limit::Clauses => put_all(
+            out,
+            at,
+            b": more than 4096 clauses in Init, Tr, Bad and the lemmas together: each constraint (assume) adds one to Tr and one to Bad, each gate up to three to both; have fewer of them\n",
         ),
         Limit::Nothing => put_all(out, at, b": no limit that this program knows\n"),
     }

@@ -1,8 +1,9 @@
-// 13 in plain words: the text, the line and its place, what is wrong with it, and the line itself.
+// Refusals in plain words: of 13 the text, the line and its place, what is wrong with it, and the line itself.
 use crate::causes::put_cause;
 use crate::causes::put_kind;
 use crate::causes::put_lemma_cause;
 use crate::limits::limit_line;
+use crate::liveness::liveness_line;
 use symbols::line::line_end;
 use text::put_all;
 use text::put_filled;
@@ -10,6 +11,7 @@ use text_faults::circuit::circuit_fault;
 use text_faults::circuit::latches_of;
 use text_faults::lemmas::lemma_cause;
 use text_faults::limits::limit_of;
+use text_faults::liveness::liveness_of;
 use text_faults::places::line_number;
 use usage::put_word;
 ghost use Rattle.text.specs.Page.{Appends, Holds};
@@ -69,7 +71,7 @@ pub fn lemma_line(name: &[u8], circuit: &[u8], text: &[u8], place: usize, out: &
     put_line(out, at, text, place)
 }
 
-// A refusal of two texts, by its number and place: 13 of the circuit, 13 of the lemmas, or 14.
+// A refusal of two texts, by its number and place: 13 of the circuit, 13 of the lemmas, 15, or 14.
 pub fn text_refusal(
     name: &[u8],
     circuit: &[u8],
@@ -82,6 +84,9 @@ pub fn text_refusal(
 ) -> usize
     ensures { λ n. ⌜ Holds (now (out .entry)) («text-refusal» (now (name .entry)) (now (circuit .entry)) (now (other .entry)) (now (lemmas .entry)) number place first) (now (out .exit)) n ⌝ }
 {
+    if number == 15 {
+        return liveness_line(name, liveness_of(circuit), out);
+    }
     if number != 13 {
         return limit_line(name, other, limit_of(circuit, lemmas), out);
     }

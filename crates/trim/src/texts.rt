@@ -3,16 +3,17 @@ use crate::page;
 use crate::reading;
 use crate::telling;
 use symbols::line::line_end;
+use text_faults::liveness::liveness_of;
 use words::Job;
 use words::Order;
 ghost use mathlib.Core.Path.{_≡_};
 ghost use lib.ListN.{length};
 
 // As many bytes as the problem file of a circuit may take.
-fn file_room() -> [u8; 35666]
-    ensures { λ r. ⌜ 35666 ≡ length r ⌝ }
+fn file_room() -> [u8; 46220]
+    ensures { λ r. ⌜ 46220 ≡ length r ⌝ }
 {
-    [0; 35666]
+    [0; 46220]
 }
 
 // Whether a refusal is 13 of the circuit, whatever the lemmas are.
@@ -88,7 +89,19 @@ fn is_whole(text: &[u8], place: usize) -> bool {
     line_end(text, place) < text.len()
 }
 
-// Lemmas that were not read whole: 13 of the circuit or of a line that is there, or 14.
+// The number of texts that are too long, where no line is at fault: 15 by the circuit's header, or 14.
+fn number_of_long(circuit: &[u8]) -> u32 {
+    let found = liveness_of(circuit);
+    if 0 < found.justice {
+        return 15;
+    }
+    if 0 < found.fairness {
+        return 15;
+    }
+    14
+}
+
+// Lemmas that were not read whole: 13 of the circuit or of a line that is there, 15 or 14.
 fn work_long(name: &[u8], circuit: &[u8], other: &[u8], lemmas: &[u8]) {
     let r = circuits::check(circuit, lemmas);
     if r.number == 13 {
@@ -98,10 +111,10 @@ fn work_long(name: &[u8], circuit: &[u8], other: &[u8], lemmas: &[u8]) {
             return;
         }
     }
-    tell_refusal(name, circuit, other, lemmas, 14, 0);
+    tell_refusal(name, circuit, other, lemmas, number_of_long(circuit), 0);
 }
 
-// A circuit that was not read whole: 13 of a line that is there, or 14.
+// A circuit that was not read whole: 13 of a line that is there, 15 or 14.
 fn work_longer(name: &[u8], circuit: &[u8], other: &[u8], lemmas: &[u8]) {
     let r = circuits::check(circuit, b"");
     if r.number == 13 {
@@ -110,7 +123,7 @@ fn work_longer(name: &[u8], circuit: &[u8], other: &[u8], lemmas: &[u8]) {
             return;
         }
     }
-    tell_refusal(name, circuit, other, lemmas, 14, 0);
+    tell_refusal(name, circuit, other, lemmas, number_of_long(circuit), 0);
 }
 
 // A text that fills its room was perhaps not read whole. It is over the limit in any case, and what is behind the room is not judged.

@@ -7,13 +7,13 @@ use mathlib.Core.Bool.{Bool, true, false}
 use mathlib.Core.Option.{Option, none, some}
 use mathlib.Core.List.{List, [], _∷_}
 use lib.ListN.{length, getD}
-use Rattle.meaning.specs.Lines.{line-at, ended, next-line, of-numbers}
+use Rattle.meaning.specs.Lines.{next-line}
 use Rattle.meaning.specs.Circuit
 use Rattle.meaning.specs.Circuit.{var}
 use Rattle.meaning.specs.CircuitText.{Line, numbers-at, at-number, known, fault-unless, first-not}
 use Rattle.sections.specs.declared.read.Ended.{Ended}
 use Rattle.sections.specs.Lists.{first-lines, line-after, after-more}
-use Rattle.sections.specs.SectionLines.{Rows, next-inside}
+use Rattle.sections.specs.SectionLines.{Row, Rows, next-inside}
 
 -- the place of a line at fault, if there is one
 unfoldable pub fault-of : Option ℕ → Ended
@@ -62,8 +62,11 @@ module _ (test : Line → Bool) (text : List ℕ) (width at count : ℕ) where
       up : count - i ≡ suc (count - (i + 1))
       up = omega arith
 
-      pub passing-row : (ended text p ≡ true) × (of-numbers width (line-at text p) ≡ true) × Rows text width (next-line text p) (count - (i + 1))
-      passing-row = subst (Rows text width p) up (g .rows)
+      passing-rows : Row text width p × Rows text width (next-line text p) (count - (i + 1))
+      passing-rows = subst (Rows text width p) up (g .rows)
+
+      pub passing-row : Row text width p
+      passing-row = passing-rows .0
 
       pub passing-wrong : test (line-here text p) ≡ false
           → record { fault = true; at = p } ≡ fault-of (first-not test (first-lines text at count))
@@ -80,8 +83,8 @@ module _ (test : Line → Bool) (text : List ℕ) (width at count : ℕ) where
                 (ap (λ (k : ℕ). fault-of (first-not test (first-lines text k (count - (i + 1))))) (sym q-is));
             place =
                 q-is ∙ ap (next-line text) (g .place) ∙ sym (after-more text at i) ∙ ap (line-after text at) (sym (add-one i));
-            inside = subst (λ (k : ℕ). k ≤ length text) (sym q-is) (next-inside text p (passing-row .0));
-            rows = subst (λ (k : ℕ). Rows text width k (count - (i + 1))) (sym q-is) (passing-row .2);
+            inside = subst (λ (k : ℕ). k ≤ length text) (sym q-is) (next-inside text p (passing-row .closed));
+            rows = subst (λ (k : ℕ). Rows text width k (count - (i + 1))) (sym q-is) (passing-rows .1);
             low = omega arith;
           }
 

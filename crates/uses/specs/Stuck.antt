@@ -11,13 +11,13 @@ use borrow.Author.Tests.{eq-eqb, ne-eqb}
 use Rattle.meaning.specs.Demands.{In}
 use Rattle.meaning.specs.Circuit
 use Rattle.meaning.specs.Circuit.{Gate, var, gate-variables}
-use Rattle.meaning.specs.CircuitText.{Line, gate-of, given, gate-works, first-not, or-else, uses-fault}
+use Rattle.meaning.specs.CircuitText.{Line, Properties, Sections, gate-of, given, gate-works, first-not, first-unknown, or-else, uses-fault}
 use Rattle.circuit_laws.specs.Sane.{Once}
 use Rattle.sections.specs.declared.circuit.Circuit.{Circuit}
 use Rattle.sections.specs.declared.read.Ended.{Ended}
 use Rattle.sections.specs.Lists.{line-after}
-use Rattle.sections.specs.Whole.{circuit-at, sections-of, lines-of}
-use Rattle.uses.specs.Passing.{fault-of, known-number, line-here}
+use Rattle.sections.specs.Whole.{circuit-at}
+use Rattle.uses.specs.Passing.{fault-of, line-here}
 use Rattle.uses.specs.Solve.{is-done}
 
 -- a gate line can be worked out
@@ -47,7 +47,7 @@ module _ (text : List ℕ) (c : Circuit) (d : List ℕ) (m : MarksAre text c d) 
   pub mark-works : (getD d (i + 1) 0 ≡ 0 → ⊥) → gate-passes (circuit-at text c) (line-here text p) ≡ true
   mark-works other = sym mark-is ∙ ap not (ne-eqb (getD d (i + 1) 0) 0 other)
 
--- ---- latches, then outputs, then gates
+-- ---- latches, then what stands between, then gates
 
 or-else-first : (a b : Option ℕ) → fault-of a .fault ≡ true → fault-of a ≡ fault-of (or-else a b)
 unfolding fault-of or-else
@@ -59,24 +59,40 @@ unfolding fault-of or-else
 or-else-next none b e = refl
 or-else-next (some at) b e = absurd (true≢false e)
 
-module _ (text : List ℕ) (c : Circuit) (a : Ended)
-    (a-is : a ≡ fault-of (first-not (known-number (circuit-at text c) 1) (lines-of text (c .latches)))) where
-  abbrev Answer : Ended → Type 0
-  Answer r = r ≡ fault-of (uses-fault (circuit-at text c) (sections-of text c))
+or-else-assoc : (a b d : Option ℕ) → or-else (or-else a b) d ≡ or-else a (or-else b d)
+unfolding or-else
+or-else-assoc none b d = refl
+or-else-assoc (some at) b d = refl
 
-  pub latch-fault : a .fault ≡ true → Answer a
-  unfolding uses-fault sections-of known-number
-  latch-fault e = a-is ∙ or-else-first _ _ (sym (ap (λ (r : Ended). r .fault) a-is) ∙ e)
+-- the first of two is at fault, or the second says it
+module _ (a b : Option ℕ) (r : Ended) (is : r ≡ fault-of a) where
+  pub here : r .fault ≡ true → r ≡ fault-of (or-else a b)
+  here e = is ∙ or-else-first a b (sym (ap (λ (x : Ended). x .fault) is) ∙ e)
 
-  module _ (fine : a .fault ≡ false) (b : Ended) (b-is : b ≡ fault-of (first-not (known-number (circuit-at text c) 0) (lines-of text (c .outputs)))) where
-    pub output-fault : b .fault ≡ true → Answer b
-    unfolding uses-fault sections-of known-number
-    output-fault e =
-        b-is ∙ or-else-first _ _ (sym (ap (λ (r : Ended). r .fault) b-is) ∙ e)
-        ∙ or-else-next _ _ (sym (ap (λ (r : Ended). r .fault) a-is) ∙ fine)
+  pub later : r .fault ≡ false → (q : Ended) → q ≡ fault-of b → q ≡ fault-of (or-else a b)
+  later e q q-is = q-is ∙ or-else-next a b (sym (ap (λ (x : Ended). x .fault) is) ∙ e)
 
-    pub gate-fault : b .fault ≡ false → (g : Ended) → g ≡ fault-of (first-not (gate-passes (circuit-at text c)) (lines-of text (c .gates))) → Answer g
-    unfolding uses-fault sections-of known-number gate-passes
-    gate-fault e g g-is =
-        g-is ∙ or-else-next _ _ (sym (ap (λ (r : Ended). r .fault) b-is) ∙ e)
-        ∙ or-else-next _ _ (sym (ap (λ (r : Ended). r .fault) a-is) ∙ fine)
+-- the first line between latches and gates that uses what it may not
+unfoldable pub properties-fault : Circuit.Circuit → Properties → Option ℕ
+properties-fault c p =
+    or-else (first-unknown c 0 (p .outputs))
+    (or-else (first-unknown c 0 (p .bads))
+    (or-else (first-unknown c 0 (p .constraints)) (or-else (first-unknown c 0 (p .justice)) (first-unknown c 0 (p .fairness)))))
+
+pub in-three : (c : Circuit.Circuit) (s : Sections)
+    → or-else (first-unknown c 1 (s .latches)) (or-else (properties-fault c (s .properties)) (first-not (gate-passes c) (s .gates))) ≡ uses-fault c s
+unfolding uses-fault properties-fault gate-passes
+in-three c s =
+    let p = s .properties in
+    let outputs = first-unknown c 0 (p .outputs) in
+    let bads = first-unknown c 0 (p .bads) in
+    let constraints = first-unknown c 0 (p .constraints) in
+    let justice = first-unknown c 0 (p .justice) in
+    let fairness = first-unknown c 0 (p .fairness) in
+    let gates = first-not (gate-passes c) (s .gates) in
+    ap (or-else (first-unknown c 1 (s .latches)))
+    (or-else-assoc outputs (or-else bads (or-else constraints (or-else justice fairness))) gates
+    ∙ ap (or-else outputs)
+    (or-else-assoc bads (or-else constraints (or-else justice fairness)) gates
+    ∙ ap (or-else bads)
+    (or-else-assoc constraints (or-else justice fairness) gates ∙ ap (or-else constraints) (or-else-assoc justice fairness gates))))

@@ -5,11 +5,11 @@ ghost use Prim.Native.Nat.{_<_, _≤_, ℕ, suc};
 ghost use lib.ListN.{length, replicate};
 ghost use Rattle.meaning.specs.CircuitText.{«first-not», «uses-fault»};
 ghost use Rattle.sections.specs.Lists.{«line-after»};
-ghost use Rattle.sections.specs.Whole.{Whole, RowsAt, «circuit-at», «lines-of», «sections-of»};
+ghost use Rattle.sections.specs.Whole.{Whole, «circuit-at», «lines-of», «properties-of», «sections-of»};
 ghost use Rattle.uses.specs.Passing.{«fault-of», «line-here»};
 ghost use Rattle.uses.specs.Solve.{«is-done»};
 ghost use Rattle.uses.specs.Fill.{Filled};
-ghost use Rattle.uses.specs.Stuck.{«gate-passes», Distinct, MarksAre};
+ghost use Rattle.uses.specs.Stuck.{«gate-passes», «properties-fault», Distinct, MarksAre};
 use crate::first::first_unknown;
 use crate::gates::solve;
 use crate::source::source;
@@ -51,7 +51,7 @@ fn fill(text: &[u8], c: Circuit, j: usize, out: &mut [u16; 10923])
     let mut p = gates.at;
     let mut i: usize = 0;
     while i < count {
-        let x = nth(text, p, 3, j);
+        let x = nth(text, p, j);
         out[i] = narrow(source(text, c, x));
         p = next_line(text, p);
         i += 1;
@@ -101,6 +101,31 @@ fn gates_fault(text: &[u8], c: Circuit) -> Ended
     first_stuck(text, c, &done)
 }
 
+// The first line between latches and gates that uses a variable that no line defines.
+fn properties_fault(text: &[u8], c: Circuit) -> Ended
+    requires { ⌜ Whole (now text) c ⌝ }
+    ensures { λ r. ⌜ r ≡ «fault-of» («properties-fault» («circuit-at» (now (text .entry)) c) («properties-of» (now (text .entry)) (c .properties))) ⌝ }
+{
+    let p = c.properties;
+    let in_outputs = first_unknown(text, c, p.outputs, 0);
+    if in_outputs.fault {
+        return in_outputs;
+    }
+    let in_bads = first_unknown(text, c, p.bads, 0);
+    if in_bads.fault {
+        return in_bads;
+    }
+    let in_constraints = first_unknown(text, c, p.constraints, 0);
+    if in_constraints.fault {
+        return in_constraints;
+    }
+    let in_justice = first_unknown(text, c, p.justice, 0);
+    if in_justice.fault {
+        return in_justice;
+    }
+    first_unknown(text, c, p.fairness, 0)
+}
+
 // The first line that uses a variable that no line defines, or whose gate cannot be worked out.
 pub fn uses_fault(text: &[u8], c: Circuit) -> Ended
     requires { ⌜ Whole (now text) c ⌝ }
@@ -109,14 +134,13 @@ pub fn uses_fault(text: &[u8], c: Circuit) -> Ended
     ensures { λ r. ⌜ r ≡ «fault-of» («uses-fault» («circuit-at» (now (text .entry)) c) («sections-of» (now (text .entry)) c)) ⌝ }
 {
     let latches = c.latches;
-    let a = first_unknown(text, c, latches, 2, 1);
-    if a.fault {
-        return a;
+    let in_latches = first_unknown(text, c, latches, 1);
+    if in_latches.fault {
+        return in_latches;
     }
-    let outputs = c.outputs;
-    let b = first_unknown(text, c, outputs, 1, 0);
-    if b.fault {
-        return b;
+    let in_properties = properties_fault(text, c);
+    if in_properties.fault {
+        return in_properties;
     }
     gates_fault(text, c)
 }

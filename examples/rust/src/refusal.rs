@@ -5,7 +5,7 @@ use std::fmt;
 /// Why a call gave no answer.
 #[derive(Clone, Copy, Debug, PartialEq, Eq)]
 pub struct Refusal {
-    /// 1 to 14, as `include/trim.h` and the project's README.md have them.
+    /// 1 to 15, as `include/trim.h` and the project's README.md have them.
     pub number: u32,
     /// The byte offset of what refusals 1 to 8 speak of in the file, and of the line that 13 speaks of in its text; the others
     /// have none.
@@ -42,7 +42,8 @@ impl Refusal {
             11 => "no subset of these candidates is safe and inductive, which does not say that the loader is unsafe",
             12 => "a row was found that does not fit the lent space",
             13 => "a line is not as the text's format says",
-            14 => "the circuit or its lemmas are over a limit, or there is no latch, or not just one output",
+            14 => "the circuit or its lemmas are over a limit, or there is no latch, or not just one output or bad literal",
+            15 => "the circuit has justice or fairness, which are not read",
             _ => "this number is not known here",
         }
     }
@@ -76,9 +77,9 @@ mod tests {
 
     #[test]
     fn every_number_has_words_of_its_own() {
-        let all: HashSet<_> = (1..=14).map(words).collect();
-        assert_eq!(all.len(), 14);
-        assert!(!all.contains(words(15)));
+        let all: HashSet<_> = (1..=15).map(words).collect();
+        assert_eq!(all.len(), 15);
+        assert!(!all.contains(words(16)));
     }
 
     #[test]

@@ -1,9 +1,9 @@
 -- `built::gates::put_gates` meets its contract. The loop's invariant: line i starts here, and the records of the gates before it are written. The
 -- measure is how many gates are left. Assumes nothing.
 use Rattle.built.specs.Wrote.{wrote-as, room-as}
-use Rattle.built.specs.Sections.{gate-part, gate-here, gates-are-parts}
+use Rattle.built.specs.Sections.{gate-line, line-part, line-here, gates-are-parts}
 use Rattle.built.specs.Turns.{Turn, turn-start, turn-room, turn-next, turn-end, turn-length}
-use Rattle.built.specs.Rows.{Cursor, cursor-start, cursor-row, cursor-next}
+use Rattle.clause_count.specs.Rows.{Cursor, cursor-start, cursor-row, cursor-next}
 use Rattle.sections.specs.Whole.{circuit-at}
 use mathlib.Core.Path.{sym}
 use native.Mathlib.Omega.{arith}
@@ -13,7 +13,7 @@ use Rattle.built.proofs.gates.put_gates.Tie as tie
 
 abbrev Inv-loop : tie.InvT-loop
 Inv-loop text c out₀ at kind count line₀ to₀ i₀ out line to i =
-    Cursor text 3 line₀ count line i × Turn (gate-part kind (circuit-at text c) text line₀) count at out₀ i to out
+    Cursor text 3 line₀ count line i × Turn (line-part kind (gate-line (circuit-at text c)) text line₀) count at out₀ i to out
 
 abbrev μ-loop : tie.MeasureT-loop
 μ-loop text c out₀ at kind count line₀ to₀ i₀ out line to i =
@@ -30,14 +30,14 @@ put-gate-requires : tie.Need-put-gate-requires Inv-loop μ-loop
 put-gate-requires c κs =
     let start = c .before .before .before .before .before .before in
     let turn = c .before .before .loop .inv in
-    let room = room-as _ (c .before .before .loop .out) (gate-here _ _ _ _ _ _ (turn .0 .place)) (turn-room (turn .1) (omega arith)) in
+    let room = room-as _ (c .before .before .loop .out) (line-here _ (gate-line _) _ _ _ _ (turn .0 .place)) (turn-room (turn .1) (omega arith)) in
     (start .pre .0, (cursor-row (turn .0) (omega arith), (start .pre .1 .0, room)))
 
 next-line-requires : tie.Need-next-line-requires Inv-loop μ-loop
 next-line-requires c κs =
     let turn-at = c .before .before .before .before .before in
     let row = cursor-row (turn-at .loop .inv .0) (omega arith) in
-    (row .inside, row .is-ended)
+    (row .inside, row .closed)
 
 add-i : tie.Need-add-i Inv-loop μ-loop
 add-i c = omega arith
@@ -50,7 +50,7 @@ loop-again c =
     let after-put-gate = c .before .before .before in
     let turn-at = after-put-gate .before .before .before in
     let turn = turn-at .loop .inv in
-    let wrote = wrote-as (sym (gate-here _ _ _ _ _ _ (turn .0 .place))) (after-put-gate .put-gate .ensures) in
+    let wrote = wrote-as (sym (line-here _ (gate-line _) _ _ _ _ (turn .0 .place))) (after-put-gate .put-gate .ensures) in
     (cursor-next (turn .0) (omega arith) _ (c .next-line .ensures .0), turn-next (turn .1) (omega arith) wrote)
 
 same-length : tie.Need-same-length Inv-loop μ-loop

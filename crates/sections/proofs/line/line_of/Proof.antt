@@ -1,75 +1,72 @@
-use mathlib.Core.List.{[]}
 use native.Mathlib.Omega.{arith}
+use mathlib.Core.Path.{_∙_}
 use borrow.Author.Tests.{not-true, not-false}
-use Rattle.sections.specs.LineOf.{line-not-numbers, line-split, line-first-wrong, line-rest-wrong, line-all-right}
 use borrow.Author.Needs.{needs}
+use Rattle.sections.specs.Rows.{form-of}
+use Rattle.sections.specs.LineOf.{line-not-numbers, line-literals-wrong, line-start-wrong, line-all-right}
 use Rattle.sections.proofs.line.line_of.Statement.{statement}
 use Rattle.sections.proofs.line.line_of.Tie as tie
 use Rattle.sections.proofs.line.line_of.Reads as reads
 use Rattle.sections.proofs.line.line_of.Lts as lts
-use Rattle.lines.proofs.line.line_past.Reads as line-past-reads
-use Rattle.lines.proofs.number.number_at.Reads as number-at-reads
-use Rattle.sections.proofs.line.first_right.Reads as first-right-reads
-use Rattle.sections.proofs.line.rest_right.Reads as rest-right-reads
+use Rattle.lines.proofs.line.next_line.Reads as next-line-reads
+use Rattle.sections.proofs.line.literals_right.Reads as literals-right-reads
+use Rattle.sections.proofs.line.start_right.Reads as start-right-reads
+use Rattle.sections.proofs.line.width_of.Reads as width-of-reads
 
--- src/line.rt:119:9
-line-past-requires : tie.Need-line-past-requires
-line-past-requires c κs = search needs
+-- src/line.rt:221:9
+width-of-requires : tie.Need-width-of-requires
+width-of-requires c κs = search needs
 
--- src/line.rt:121:9
+-- src/line.rt:223:9
 returns : tie.Need-returns
-returns c = (line-not-numbers _ _ _ _ _ _ _ (c .before .line-past .ensures .0) (c .before .before .before .pre .1 .0) (c .if1 .taken), omega arith)
+returns c = (line-not-numbers _ _ _ _ _ _ _ (c .before .width-of .ensures) (c .if1 .taken), omega arith)
 
--- src/line.rt:123:9
-number-at-requires : tie.Need-number-at-requires
-number-at-requires c κs = search needs
+-- src/line.rt:225:9
+literals-right-requires : tie.Need-literals-right-requires
+unfolding form-of
+literals-right-requires c κs =
+    let p = c .before .before .before .pre in
+    let w = c .before .width-of .ensures in
+    let some = c .if1 .left in
+    (p .0, (w .closed some, (w .numbers some, (omega (arith, w .least some, p .1 .0), (p .1 .1 .1 .0, p .1 .1 .1 .1)))))
 
--- src/line.rt:124:9
-first-right-requires : tie.Need-first-right-requires
-first-right-requires c κs =
-    let y = c .number-at .ensures in
-    let cut = line-split (c .before .before .before .before .args .form) (c .before .before .before .before .args .judged) 0 [] _ _ _ (c .before .before .line-past .ensures .0) (c .before .before .before .before .pre .1 .0) (c .before .if1 .left) _ (y .0) (y .1) (y .2) in
-    (c .before .before .before .before .pre .1 .1 .0, (c .before .before .before .before .pre .1 .1 .1, (y .0, cut .some)))
-
--- src/line.rt:125:9
+-- src/line.rt:226:9
 returns-2 : tie.Need-returns-2
-returns-2 c =
-    let y = c .before .before .number-at .ensures in
-    (line-first-wrong _ _ _ _ _ _ _ (c .before .before .before .before .line-past .ensures .0) (c .before .before .before .before .before .before .pre .1 .0) (c .before .before .before .if1 .left) _ (y .0) (y .1) (y .2) _ (c .before .first-right .ensures) (not-true _ (c .if2 .taken)), omega arith)
+returns-2 c = (line-literals-wrong _ _ _ _ _ _ _ (c .before .before .before .width-of .ensures) (c .before .before .if1 .left) _ (c .before .literals-right .ensures) (not-true _ (c .if2 .taken)), omega arith)
 
--- src/line.rt:127:36
-sub-rest-right : tie.Need-sub-rest-right
-sub-rest-right c = search needs
+-- src/line.rt:228:8
+start-right-requires : tie.Need-start-right-requires
+unfolding form-of
+start-right-requires c κs =
+    let p = c .before .before .before .before .before .pre in
+    let w = c .before .before .before .width-of .ensures in
+    let some = c .before .before .if1 .left in
+    (p .0, (w .closed some, (w .numbers some, (omega (arith, w .least some, p .1 .0), w .least some))))
 
--- src/line.rt:127:8
-rest-right-requires : tie.Need-rest-right-requires
-rest-right-requires c κs =
-    let y = c .before .before .number-at .ensures in
-    let cut = line-split (c .before .before .before .before .before .before .args .form) (c .before .before .before .before .before .before .args .judged) 0 [] _ _ _ (c .before .before .before .before .line-past .ensures .0) (c .before .before .before .before .before .before .pre .1 .0) (c .before .before .before .if1 .left) _ (y .0) (y .1) (y .2) in
-    (cut .rest, c .before .before .before .before .before .before .pre .1 .1 .1)
+-- src/line.rt:229:9
+next-line-requires : tie.Need-next-line-requires
+next-line-requires c κs =
+    let p = c .before .before .before .before .before .before .before .pre in
+    (p .0, c .before .before .before .before .before .width-of .ensures .closed (c .before .before .before .before .if1 .left))
 
--- src/line.rt:128:9
+-- src/line.rt:229:9
 returns-3 : tie.Need-returns-3
 returns-3 c =
-    let y = c .before .before .before .before .number-at .ensures in
-    (line-all-right _ _ _ _ _ _ _ (c .before .before .before .before .before .before .line-past .ensures .0) (c .before .before .before .before .before .before .before .before .pre .1 .0) (c .before .before .before .before .before .if1 .left) _ (y .0) (y .1) (y .2) _ (c .before .before .before .first-right .ensures) (not-false _ (c .before .before .if2 .left)) _ (c .before .rest-right .ensures) (c .if3 .taken), c .before .before .before .before .before .before .line-past .ensures .1)
+    (c .next-line .ensures .0 ∙ line-all-right _ _ _ _ _ _ _ (c .before .before .before .before .before .before .width-of .ensures) (c .before .before .before .before .before .if1 .left) _ (c .before .before .before .before .literals-right .ensures) (not-false _ (c .before .before .before .if2 .left)) _ (c .before .before .start-right .ensures) (c .before .if3 .taken), c .next-line .ensures .1)
 
--- src/line.rt:111:1
+-- src/line.rt:213:1
 returns-4 : tie.Need-returns-4
-returns-4 c =
-    let y = c .before .before .before .before .number-at .ensures in
-    (line-rest-wrong _ _ _ _ _ _ _ (c .before .before .before .before .before .before .line-past .ensures .0) (c .before .before .before .before .before .before .before .before .pre .1 .0) (c .before .before .before .before .before .if1 .left) _ (y .0) (y .1) (y .2) _ (c .before .before .before .first-right .ensures) (not-false _ (c .before .before .if2 .left)) _ (c .before .rest-right .ensures) (c .if3 .left), omega arith)
+returns-4 c = (line-start-wrong _ _ _ _ _ _ _ (c .before .before .before .before .before .width-of .ensures) (c .before .before .before .before .if1 .left) _ (c .before .before .before .literals-right .ensures) (not-false _ (c .before .before .if2 .left)) _ (c .before .start-right .ensures) (c .if3 .left), omega arith)
 
 pub line-of-spec : {M : Type 1} → statement M
 line-of-spec =
     tie.close
     (tie.spec
-    line-past-requires
+    width-of-requires
     returns
-    number-at-requires
-    first-right-requires
+    literals-right-requires
     returns-2
-    sub-rest-right
-    rest-right-requires
+    start-right-requires
+    next-line-requires
     returns-3
     returns-4)

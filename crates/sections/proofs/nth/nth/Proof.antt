@@ -1,8 +1,10 @@
 use Prim.Native.Nat.{ℕ, suc, _+_, _-_, _<_, _≤_}
 use mathlib.Core.Path.{_≡_, refl, sym, ap, subst, _∙_}
-use lib.ListN.{getD}
+use lib.ListN.{length, getD}
 use native.Mathlib.Omega.{arith}
 use Rattle.meaning.specs.CircuitText.{numbers-at}
+use Rattle.meaning.specs.Lines.{line-at, words}
+use Rattle.sections.specs.Split.{of-all}
 use Rattle.sections.specs.Nth.{Reached, reached-first, reached-inside, reached-next, reached-is}
 use Rattle.sections.proofs.nth.nth.Statement.{statement}
 use Rattle.sections.proofs.nth.nth.Tie as tie
@@ -11,10 +13,10 @@ use Rattle.sections.proofs.nth.nth.Lts as lts
 use Rattle.lines.proofs.number.number_at.Reads as number-at-reads
 
 abbrev Inv-loop : tie.InvT-loop
-Inv-loop text at width j x₀ i₀ x i = Reached text at width i x × (i ≤ j) × (j < width)
+Inv-loop text at j x₀ i₀ x i = Reached text at (length (words (line-at text at))) i x × (i ≤ j) × (j < length (words (line-at text at)))
 
 abbrev μ-loop : tie.MeasureT-loop
-μ-loop text at width j x₀ i₀ x i = j - i
+μ-loop text at j x₀ i₀ x i = j - i
 
 -- src/nth.rt:20:9
 number-at-requires : tie.Need-number-at-requires Inv-loop μ-loop
@@ -25,7 +27,7 @@ loop-holds : tie.Need-loop-holds Inv-loop μ-loop
 loop-holds c =
     let start = c .before .before .pre in
     let y = c .number-at .ensures in
-    (reached-first _ _ _ _ (start .1 .0) (start .1 .1 .0) (omega arith) (y .0) (y .1) (y .2), omega arith, start .1 .1 .1)
+    (reached-first _ _ _ _ (start .1 .0) (of-all _ (start .1 .1 .0)) (omega arith) (y .0) (y .1) (y .2), omega arith, start .1 .1 .1)
 
 -- src/nth.rt:23:29
 add-number-at : tie.Need-add-number-at Inv-loop μ-loop

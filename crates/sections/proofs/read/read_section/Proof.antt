@@ -5,7 +5,7 @@ use native.Mathlib.Omega.{arith}
 use borrow.Author.Needs.{needs}
 use Rattle.lines.specs.Numbers.{worth, capped}
 use Rattle.sections.specs.Lists.{variables-of, Placed}
-use Rattle.sections.specs.Reading.{Going, going-start, going-end, section-wrong, section-next, all-lines, capped-most, own-placed}
+use Rattle.sections.specs.Reading.{Going, going-start, going-end, section-wrong, section-next, all-lines, capped-most, capped-self, own-placed}
 use Rattle.sections.proofs.read.read_section.Statement.{statement}
 use Rattle.sections.proofs.read.read_section.Tie as tie
 use Rattle.sections.proofs.read.read_section.Reads as reads
@@ -14,11 +14,11 @@ use Rattle.sections.proofs.line.line_of.Reads as line-of-reads
 use Rattle.sections.proofs.read.own_count.Reads as own-count-reads
 
 abbrev Inv-loop : tie.InvT-loop
-Inv-loop text at form judged m inputs latches total p₀ i₀ p i =
-    (n : ℕ) → total ≡ capped n → Going text form judged (worth text m) (variables-of text inputs ++ variables-of text latches) at n p i
+Inv-loop text at count form judged m inputs latches p₀ i₀ p i =
+    (n : ℕ) → count ≡ capped n → Going text form judged (worth text m) (variables-of text inputs ++ variables-of text latches) at n p i
 
 abbrev μ-loop : tie.MeasureT-loop
-μ-loop text at form judged m inputs latches total p₀ i₀ p i = total - i
+μ-loop text at count form judged m inputs latches p₀ i₀ p i = count - i
 
 -- src/read.rt:46:5
 loop-holds : tie.Need-loop-holds Inv-loop μ-loop
@@ -32,17 +32,20 @@ own-count-requires c κs = search needs
 line-of-requires : tie.Need-line-of-requires Inv-loop μ-loop
 line-of-requires c κs =
     let start = c .before .before .before .before .pre in
-    let g = c .before .before .loop .inv _ (start .1 .1 .0 .value) in (
+    let g = c .before .before .loop .inv _ (capped-self _ (start .1 .1 .1 .0)) in (
       g .inside,
       (
         start .1 .0,
         (
-          record {
-            inputs = start .1 .1 .1 .1 .0;
-            latches = start .1 .1 .1 .1 .1;
-            own = own-placed _ _ _ _ _ (c .own-count .ensures) (start .0) (g .numbered);
-          },
-          start .1 .1 .1 .0,
+          start .1 .1 .0,
+          (
+            record {
+              inputs = start .1 .1 .1 .1 .1 .0;
+              latches = start .1 .1 .1 .1 .1 .1;
+              own = own-placed _ _ _ _ _ (c .own-count .ensures) (start .0) (g .numbered);
+            },
+            start .1 .1 .1 .1 .0,
+          ),
         ),
       ),
     )
@@ -50,10 +53,9 @@ line-of-requires c κs =
 -- src/read.rt:55:13
 returns : tie.Need-returns Inv-loop μ-loop
 returns c =
-    let start = c .before .before .before .before .before .before .pre in
-    let is = start .1 .1 .0 .value in
-    section-wrong _ _ _ _ _ _ _ _ _ _ _ (start .1 .0) (c .before .before .own-count .ensures) (c .before .line-of .ensures .0) _
-    (omega (arith, is, capped-most (worth (c .before .before .before .before .before .before .args .text .now) (c .before .before .before .before .before .before .args .count)))) (c .before .before .before .before .loop .inv _ is) (c .if1 .taken)
+    λ n is.
+    section-wrong _ _ _ _ _ _ _ _ _ _ _ (c .before .before .before .before .before .before .pre .1 .0) (c .before .before .own-count .ensures) (c .before .line-of .ensures .0) n
+    (omega (arith, is, capped-most n)) (c .before .before .before .before .loop .inv n is) (c .if1 .taken)
 
 -- src/read.rt:61:9
 add-i : tie.Need-add-i Inv-loop μ-loop
@@ -73,8 +75,8 @@ loop-again c =
 -- src/read.rt:34:1
 returns-2 : tie.Need-returns-2 Inv-loop μ-loop
 returns-2 c =
-    let is = c .before .before .before .pre .1 .1 .0 .value in
-    let g = c .before .loop .inv _ is in
+    λ n is.
+    let g = c .before .loop .inv n is in
     going-end _ _ _ _ _ _ g (all-lines _ _ _ _ is (g .far) (omega arith) (g .low) (omega arith))
 
 pub read-section-spec : {M : Type 1} → statement M

@@ -13,7 +13,9 @@ use Rattle.text_faults.proofs.cause.defined_cause.Statement.{statement}
 use Rattle.text_faults.proofs.cause.defined_cause.Tie as tie
 
 nth-requires : tie.Need-nth-requires
-nth-requires c κs = search needs
+nth-requires c κs =
+    let row = c .before .pre .0 in
+    (omega (arith, row .inside), (row .closed, (row .numbers, omega (arith, row .many, c .before .pre .1 .1 .0))))
 
 is-even-requires : tie.Need-is-even-requires
 is-even-requires c κs = search needs

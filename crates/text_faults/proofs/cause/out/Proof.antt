@@ -1,6 +1,7 @@
 -- `text_faults::cause::out` makes the definition's test. Assumes nothing.
 use mathlib.Core.Path.{ap, _∙_}
 use mathlib.Core.Bool.{not}
+use native.Mathlib.Omega.{arith}
 use borrow.Author.Tests.{lt-ltb, le-ltb}
 use Rattle.meaning.specs.CircuitText.{used-right}
 use Rattle.lines.specs.Numbers.{worth}
@@ -15,7 +16,9 @@ returns c =
     rw (le-ltb (c .before .before .args .j) (c .before .before .args .width) (c .if1 .taken))
 
 nth-requires : tie.Need-nth-requires
-nth-requires c κs = search needs
+nth-requires c κs =
+    let row = c .before .before .pre .0 in
+    (omega (arith, row .inside), (row .closed, (row .numbers, omega (arith, row .many, c .if1 .left))))
 
 used-right-requires : tie.Need-used-right-requires
 used-right-requires c κs = search needs

@@ -1,6 +1,7 @@
 -- `text_faults::cause::twice_cause` makes the definition's test. Assumes nothing.
 use Prim.Native.Nat.{ℕ}
 use mathlib.Core.Path.{sym, ap, _∙_}
+use native.Mathlib.Omega.{arith}
 use borrow.Author.Tests.{lt-ltb, le-ltb}
 use Rattle.text_faults.specs.Definers.{earlier}
 use Rattle.text_faults.specs.Causes.{twice-cause}
@@ -9,7 +10,9 @@ use Rattle.text_faults.proofs.cause.twice_cause.Statement.{statement}
 use Rattle.text_faults.proofs.cause.twice_cause.Tie as tie
 
 nth-requires : tie.Need-nth-requires
-nth-requires c κs = search needs
+nth-requires c κs =
+    let row = c .before .pre .0 in
+    (omega (arith, row .inside), (row .closed, (row .numbers, omega (arith, row .many, c .before .pre .1 .1))))
 
 earlier-requires : tie.Need-earlier-requires
 earlier-requires c κs = search needs

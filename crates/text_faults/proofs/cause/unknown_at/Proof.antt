@@ -1,6 +1,7 @@
 -- `text_faults::cause::unknown_at` makes the definition's test. Assumes nothing.
 use mathlib.Core.Path.{ap, _∙_}
 use mathlib.Core.Bool.{not}
+use native.Mathlib.Omega.{arith}
 use borrow.Author.Tests.{lt-ltb, le-ltb}
 use Rattle.text_faults.specs.Definers.{known-here}
 use Rattle.text_faults.specs.Causes.{unknown-at}
@@ -14,7 +15,9 @@ returns c =
     rw (le-ltb (c .before .before .args .j) (c .before .before .args .width) (c .if1 .taken))
 
 nth-requires : tie.Need-nth-requires
-nth-requires c κs = search needs
+nth-requires c κs =
+    let row = c .before .before .pre .0 in
+    (omega (arith, row .inside), (row .closed, (row .numbers, omega (arith, row .many, c .if1 .left))))
 
 known-here-requires : tie.Need-known-here-requires
 known-here-requires c κs = search needs

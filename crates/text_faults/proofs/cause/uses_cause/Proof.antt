@@ -20,7 +20,7 @@ unknown-at-requires c κs = search needs
 returns-2 : tie.Need-returns-2
 unfolding uses-cause
 returns-2 c =
-    sym (passed (c .before .before .before .before .args .form .defines) _ _ (c .before .before .if1 .left) ∙ (rw (sym (c .before .unknown-at .ensures) ∙ c .if2 .taken)))
+    sym (passed (c .before .before .before .before .args .defines) _ _ (c .before .before .if1 .left) ∙ (rw (sym (c .before .unknown-at .ensures) ∙ c .if2 .taken)))
 
 later-cause-requires-2 : tie.Need-later-cause-requires-2
 later-cause-requires-2 c κs = search needs
@@ -28,7 +28,7 @@ later-cause-requires-2 c κs = search needs
 returns-3 : tie.Need-returns-3
 unfolding uses-cause
 returns-3 c =
-    c .later-cause2 .ensures ∙ sym (passed (c .before .before .before .before .before .args .form .defines) _ _ (c .before .before .before .if1 .left) ∙ (rw (sym (c .before .before .unknown-at .ensures) ∙ c .before .if2 .left)))
+    c .later-cause2 .ensures ∙ sym (passed (c .before .before .before .before .before .args .defines) _ _ (c .before .before .before .if1 .left) ∙ (rw (sym (c .before .before .unknown-at .ensures) ∙ c .before .if2 .left)))
 
 pub uses-cause-spec : {M : Type 1} → statement M
 uses-cause-spec =

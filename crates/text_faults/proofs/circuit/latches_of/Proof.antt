@@ -3,6 +3,7 @@ use mathlib.Core.Path.{sym, ap, _∙_}
 use native.Mathlib.Omega.{arith}
 use borrow.Author.Tests.{not-true, not-false}
 use Rattle.meaning.specs.CircuitText.{Header}
+use Rattle.circuit_text.specs.Header.{header-at}
 use Rattle.lines.specs.Numbers.{capped}
 use Rattle.text_faults.specs.Circuits.{below-huge, latches-of}
 use borrow.Author.Needs.{needs}
@@ -21,7 +22,7 @@ below-huge-requires : tie.Need-below-huge-requires
 below-huge-requires c κs = search needs
 
 returns-2 : tie.Need-returns-2
-unfolding latches-of
+unfolding latches-of header-at
 returns-2 c =
     let parts = c .before .before .before .before .read-header .ensures .parts (not-false _ (c .before .before .if1 .left)) in
     let value = parts .l .value ∙ ap (λ (h : Header). capped (h .l)) (parts .worths) in (

@@ -8,7 +8,8 @@ use mathlib.Core.List.{List}
 use Rattle.meaning.specs.Circuit.{var}
 use Rattle.meaning.specs.Lines.{decimal}
 use Rattle.lines.specs.Numbers.{worth}
-use Rattle.text_faults.specs.Definers.{first-number, Walked, walk-start, walk-done, walk-found, walk-on}
+use Rattle.text_faults.specs.Places.{first-number}
+use Rattle.text_faults.specs.Definers.{Walked, walk-start, walk-done, walk-found, walk-on}
 use Rattle.text_faults.proofs.definers.definer.Statement.{statement}
 use Rattle.text_faults.proofs.definers.definer.Tie as tie
 

@@ -1,5 +1,5 @@
 -- `text_faults::limits::header_limit` makes the definition's tests, with the header's counts. Assumes nothing.
-use Rattle.circuit_text.specs.Read.{header-at}
+use Rattle.circuit_text.specs.Header.{header-at}
 use Rattle.text_faults.specs.LimitLaws.{no-latch, many-latches, few-latches}
 use borrow.Author.Needs.{needs}
 use Rattle.text_faults.proofs.limits.header_limit.Statement.{statement}

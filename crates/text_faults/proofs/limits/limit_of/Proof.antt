@@ -3,7 +3,7 @@ use mathlib.Core.Path.{sym, ap, _∙_}
 use borrow.Author.Tests.{lt-ltb, le-ltb, not-true, not-false}
 use lib.ListN.{length}
 use Rattle.meaning.specs.CircuitText.{Header}
-use Rattle.circuit_text.specs.Read.{header-at}
+use Rattle.circuit_text.specs.Header.{header-at}
 use Rattle.text_faults.specs.Limits.{header-limit, limit-of}
 use borrow.Author.Needs.{needs}
 use Rattle.text_faults.proofs.limits.limit_of.Statement.{statement}

@@ -57,6 +57,51 @@ slice-aggregate-put-all-6 c = search needs
 put-all-requires-6 : tie.Need-put-all-requires-6
 put-all-requires-6 c κs = search needs
 
+enum-told-7 : tie.Need-enum-told-7
+enum-told-7 c = search needs
+
+slice-aggregate-put-all-7 : tie.Need-slice-aggregate-put-all-7
+slice-aggregate-put-all-7 c = search needs
+
+put-all-requires-7 : tie.Need-put-all-requires-7
+put-all-requires-7 c κs = search needs
+
+enum-told-8 : tie.Need-enum-told-8
+enum-told-8 c = search needs
+
+slice-aggregate-put-all-8 : tie.Need-slice-aggregate-put-all-8
+slice-aggregate-put-all-8 c = search needs
+
+put-all-requires-8 : tie.Need-put-all-requires-8
+put-all-requires-8 c κs = search needs
+
+enum-told-9 : tie.Need-enum-told-9
+enum-told-9 c = search needs
+
+slice-aggregate-put-all-9 : tie.Need-slice-aggregate-put-all-9
+slice-aggregate-put-all-9 c = search needs
+
+put-all-requires-9 : tie.Need-put-all-requires-9
+put-all-requires-9 c κs = search needs
+
+enum-told-10 : tie.Need-enum-told-10
+enum-told-10 c = search needs
+
+slice-aggregate-put-all-10 : tie.Need-slice-aggregate-put-all-10
+slice-aggregate-put-all-10 c = search needs
+
+put-all-requires-10 : tie.Need-put-all-requires-10
+put-all-requires-10 c κs = search needs
+
+enum-told-11 : tie.Need-enum-told-11
+enum-told-11 c = search needs
+
+slice-aggregate-put-all-11 : tie.Need-slice-aggregate-put-all-11
+slice-aggregate-put-all-11 c = search needs
+
+put-all-requires-11 : tie.Need-put-all-requires-11
+put-all-requires-11 c κs = search needs
+
 same-length : tie.Need-same-length
 same-length c = search needs
 
@@ -99,37 +144,40 @@ returns-6 : tie.Need-returns-6
 returns-6 c =
     rw (c .before .before .before .before .before .enum-told6 .given .1) (c .before .before .put-all6 .ensures)
 
+same-length-7 : tie.Need-same-length-7
+same-length-7 c = search needs
+
+returns-7 : tie.Need-returns-7
+returns-7 c =
+    rw (c .before .before .before .before .before .enum-told7 .given .1) (c .before .before .put-all7 .ensures)
+
+same-length-8 : tie.Need-same-length-8
+same-length-8 c = search needs
+
+returns-8 : tie.Need-returns-8
+returns-8 c =
+    rw (c .before .before .before .before .before .enum-told8 .given .1) (c .before .before .put-all8 .ensures)
+
+same-length-9 : tie.Need-same-length-9
+same-length-9 c = search needs
+
+returns-9 : tie.Need-returns-9
+returns-9 c =
+    rw (c .before .before .before .before .before .enum-told9 .given .1) (c .before .before .put-all9 .ensures)
+
+same-length-10 : tie.Need-same-length-10
+same-length-10 c = search needs
+
+returns-10 : tie.Need-returns-10
+returns-10 c =
+    rw (c .before .before .before .before .before .enum-told10 .given .1) (c .before .before .put-all10 .ensures)
+
+same-length-11 : tie.Need-same-length-11
+same-length-11 c = search needs
+
+returns-11 : tie.Need-returns-11
+returns-11 c =
+    rw (c .before .before .before .before .before .enum-told11 .given .1) (c .before .before .put-all11 .ensures)
+
 pub put-kind-spec : {M : Type 1} → statement M
-put-kind-spec =
-    tie.close
-    (tie.spec
-    enum-told
-    slice-aggregate-put-all
-    put-all-requires
-    enum-told-2
-    slice-aggregate-put-all-2
-    put-all-requires-2
-    enum-told-3
-    slice-aggregate-put-all-3
-    put-all-requires-3
-    enum-told-4
-    slice-aggregate-put-all-4
-    put-all-requires-4
-    enum-told-5
-    slice-aggregate-put-all-5
-    put-all-requires-5
-    enum-told-6
-    slice-aggregate-put-all-6
-    put-all-requires-6
-    same-length
-    returns
-    same-length-2
-    returns-2
-    same-length-3
-    returns-3
-    same-length-4
-    returns-4
-    same-length-5
-    returns-5
-    same-length-6
-    returns-6)
+put-kind-spec = tie.close (tie.spec enum-told slice-aggregate-put-all put-all-requires enum-told-2 slice-aggregate-put-all-2 put-all-requires-2 enum-told-3 slice-aggregate-put-all-3 put-all-requires-3 enum-told-4 slice-aggregate-put-all-4 put-all-requires-4 enum-told-5 slice-aggregate-put-all-5 put-all-requires-5 enum-told-6 slice-aggregate-put-all-6 put-all-requires-6 enum-told-7 slice-aggregate-put-all-7 put-all-requires-7 enum-told-8 slice-aggregate-put-all-8 put-all-requires-8 enum-told-9 slice-aggregate-put-all-9 put-all-requires-9 enum-told-10 slice-aggregate-put-all-10 put-all-requires-10 enum-told-11 slice-aggregate-put-all-11 put-all-requires-11 same-length returns same-length-2 returns-2 same-length-3 returns-3 same-length-4 returns-4 same-length-5 returns-5 same-length-6 returns-6 same-length-7 returns-7 same-length-8 returns-8 same-length-9 returns-9 same-length-10 returns-10 same-length-11 returns-11)

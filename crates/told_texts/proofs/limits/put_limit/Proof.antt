@@ -48,6 +48,15 @@ slice-aggregate-put-filled-2 c = search needs
 put-filled-requires-2 : tie.Need-put-filled-requires-2
 put-filled-requires-2 c κs = search needs
 
+enum-told-4 : tie.Need-enum-told-4
+enum-told-4 c = search needs
+
+slice-aggregate-put-all-4 : tie.Need-slice-aggregate-put-all-4
+slice-aggregate-put-all-4 c = search needs
+
+put-all-requires-4 : tie.Need-put-all-requires-4
+put-all-requires-4 c κs = search needs
+
 enum-known-limit-3 : tie.Need-enum-known-limit-3
 enum-known-limit-3 c = search needs
 
@@ -75,14 +84,41 @@ slice-aggregate-put-filled-5 c = search needs
 put-filled-requires-5 : tie.Need-put-filled-requires-5
 put-filled-requires-5 c κs = search needs
 
-enum-told-4 : tie.Need-enum-told-4
-enum-told-4 c = search needs
+enum-known-limit-6 : tie.Need-enum-known-limit-6
+enum-known-limit-6 c = search needs
 
-slice-aggregate-put-all-4 : tie.Need-slice-aggregate-put-all-4
-slice-aggregate-put-all-4 c = search needs
+slice-aggregate-put-filled-6 : tie.Need-slice-aggregate-put-filled-6
+slice-aggregate-put-filled-6 c = search needs
 
-put-all-requires-4 : tie.Need-put-all-requires-4
-put-all-requires-4 c κs = search needs
+put-filled-requires-6 : tie.Need-put-filled-requires-6
+put-filled-requires-6 c κs = search needs
+
+enum-known-limit-7 : tie.Need-enum-known-limit-7
+enum-known-limit-7 c = search needs
+
+slice-aggregate-put-filled-7 : tie.Need-slice-aggregate-put-filled-7
+slice-aggregate-put-filled-7 c = search needs
+
+put-filled-requires-7 : tie.Need-put-filled-requires-7
+put-filled-requires-7 c κs = search needs
+
+enum-told-5 : tie.Need-enum-told-5
+enum-told-5 c = search needs
+
+slice-aggregate-put-all-5 : tie.Need-slice-aggregate-put-all-5
+slice-aggregate-put-all-5 c = search needs
+
+put-all-requires-5 : tie.Need-put-all-requires-5
+put-all-requires-5 c κs = search needs
+
+enum-told-6 : tie.Need-enum-told-6
+enum-told-6 c = search needs
+
+slice-aggregate-put-all-6 : tie.Need-slice-aggregate-put-all-6
+slice-aggregate-put-all-6 c = search needs
+
+put-all-requires-6 : tie.Need-put-all-requires-6
+put-all-requires-6 c κs = search needs
 
 same-length : tie.Need-same-length
 same-length c = search needs
@@ -124,75 +160,56 @@ same-length-6 c = search needs
 
 returns-6 : tie.Need-returns-6
 returns-6 c =
-    rw (c .before .before .before .before .before .before .limit3 .given .1) (c .before .before .put-filled3 .ensures)
+    rw (c .before .before .before .before .before .enum-told4 .given .1) (c .before .before .put-all4 .ensures)
 
 same-length-7 : tie.Need-same-length-7
 same-length-7 c = search needs
 
 returns-7 : tie.Need-returns-7
 returns-7 c =
-    rw (c .before .before .before .before .before .before .limit4 .given .1) (c .before .before .put-filled4 .ensures)
+    rw (c .before .before .before .before .before .before .limit3 .given .1) (c .before .before .put-filled3 .ensures)
 
 same-length-8 : tie.Need-same-length-8
 same-length-8 c = search needs
 
 returns-8 : tie.Need-returns-8
 returns-8 c =
-    rw (c .before .before .before .before .before .before .limit5 .given .1) (c .before .before .put-filled5 .ensures)
+    rw (c .before .before .before .before .before .before .limit4 .given .1) (c .before .before .put-filled4 .ensures)
 
 same-length-9 : tie.Need-same-length-9
 same-length-9 c = search needs
 
 returns-9 : tie.Need-returns-9
 returns-9 c =
-    rw (c .before .before .before .before .before .enum-told4 .given .1) (c .before .before .put-all4 .ensures)
+    rw (c .before .before .before .before .before .before .limit5 .given .1) (c .before .before .put-filled5 .ensures)
+
+same-length-10 : tie.Need-same-length-10
+same-length-10 c = search needs
+
+returns-10 : tie.Need-returns-10
+returns-10 c =
+    rw (c .before .before .before .before .before .before .limit6 .given .1) (c .before .before .put-filled6 .ensures)
+
+same-length-11 : tie.Need-same-length-11
+same-length-11 c = search needs
+
+returns-11 : tie.Need-returns-11
+returns-11 c =
+    rw (c .before .before .before .before .before .before .limit7 .given .1) (c .before .before .put-filled7 .ensures)
+
+same-length-12 : tie.Need-same-length-12
+same-length-12 c = search needs
+
+returns-12 : tie.Need-returns-12
+returns-12 c =
+    rw (c .before .before .before .before .before .enum-told5 .given .1) (c .before .before .put-all5 .ensures)
+
+same-length-13 : tie.Need-same-length-13
+same-length-13 c = search needs
+
+returns-13 : tie.Need-returns-13
+returns-13 c =
+    rw (c .before .before .before .before .before .enum-told6 .given .1) (c .before .before .put-all6 .ensures)
 
 pub put-limit-spec : {M : Type 1} → statement M
-put-limit-spec =
-    tie.close
-    (tie.spec
-    enum-told
-    slice-aggregate-put-all
-    put-all-requires
-    enum-told-2
-    slice-aggregate-put-all-2
-    put-all-requires-2
-    enum-told-3
-    slice-aggregate-put-all-3
-    put-all-requires-3
-    enum-known-limit
-    slice-aggregate-put-filled
-    put-filled-requires
-    enum-known-limit-2
-    slice-aggregate-put-filled-2
-    put-filled-requires-2
-    enum-known-limit-3
-    slice-aggregate-put-filled-3
-    put-filled-requires-3
-    enum-known-limit-4
-    slice-aggregate-put-filled-4
-    put-filled-requires-4
-    enum-known-limit-5
-    slice-aggregate-put-filled-5
-    put-filled-requires-5
-    enum-told-4
-    slice-aggregate-put-all-4
-    put-all-requires-4
-    same-length
-    returns
-    same-length-2
-    returns-2
-    same-length-3
-    returns-3
-    same-length-4
-    returns-4
-    same-length-5
-    returns-5
-    same-length-6
-    returns-6
-    same-length-7
-    returns-7
-    same-length-8
-    returns-8
-    same-length-9
-    returns-9)
+put-limit-spec = tie.close (tie.spec enum-told slice-aggregate-put-all put-all-requires enum-told-2 slice-aggregate-put-all-2 put-all-requires-2 enum-told-3 slice-aggregate-put-all-3 put-all-requires-3 enum-known-limit slice-aggregate-put-filled put-filled-requires enum-known-limit-2 slice-aggregate-put-filled-2 put-filled-requires-2 enum-told-4 slice-aggregate-put-all-4 put-all-requires-4 enum-known-limit-3 slice-aggregate-put-filled-3 put-filled-requires-3 enum-known-limit-4 slice-aggregate-put-filled-4 put-filled-requires-4 enum-known-limit-5 slice-aggregate-put-filled-5 put-filled-requires-5 enum-known-limit-6 slice-aggregate-put-filled-6 put-filled-requires-6 enum-known-limit-7 slice-aggregate-put-filled-7 put-filled-requires-7 enum-told-5 slice-aggregate-put-all-5 put-all-requires-5 enum-told-6 slice-aggregate-put-all-6 put-all-requires-6 same-length returns same-length-2 returns-2 same-length-3 returns-3 same-length-4 returns-4 same-length-5 returns-5 same-length-6 returns-6 same-length-7 returns-7 same-length-8 returns-8 same-length-9 returns-9 same-length-10 returns-10 same-length-11 returns-11 same-length-12 returns-12 same-length-13 returns-13)

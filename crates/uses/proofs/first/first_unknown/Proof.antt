@@ -1,4 +1,5 @@
-use Prim.Native.Nat.{_-_}
+use Prim.Native.Nat.{suc, _-_}
+use Rattle.meaning.specs.CircuitText.{first-unknown}
 use mathlib.Core.Path.{sym, _∙_}
 use native.Mathlib.Omega.{arith}
 use borrow.Author.Tests.{not-true, not-false}
@@ -13,24 +14,24 @@ use Rattle.sections.proofs.nth.nth.Reads as nth-reads
 use Rattle.uses.proofs.source.is_known.Reads as is-known-reads
 
 abbrev Inv-loop : tie.InvT-loop
-Inv-loop text c width j count p₀ i₀ p i =
-    Passing (known-number (circuit-at text c) j) text width p₀ count p i
+Inv-loop text c j count p₀ i₀ p i =
+    Passing (known-number (circuit-at text c) j) text (suc j) p₀ count p i
 
 abbrev μ-loop : tie.MeasureT-loop
-μ-loop text c width j count p₀ i₀ p i =
+μ-loop text c j count p₀ i₀ p i =
     count - i
 
 -- src/first.rt:25:5
 loop-holds : tie.Need-loop-holds Inv-loop μ-loop
 loop-holds c =
-    passing-start _ _ _ _ _ (c .before .pre .1 .0 .inside) (c .before .pre .1 .0 .rows)
+    passing-start _ _ _ _ _ (c .before .pre .1 .inside) (c .before .pre .1 .rows)
 
 -- src/first.rt:26:13
 nth-requires : tie.Need-nth-requires Inv-loop μ-loop
 nth-requires c κs =
     let g = c .before .loop .inv in
     let row = passing-row _ _ _ _ _ g (omega arith) in
-    (g .inside, (row .0, (row .1, c .before .before .before .pre .1 .1)))
+    (g .inside, (row .closed, (row .numbers, row .wide)))
 
 -- src/first.rt:27:13
 is-known-requires : tie.Need-is-known-requires Inv-loop μ-loop
@@ -39,7 +40,7 @@ is-known-requires c κs =
 
 -- src/first.rt:28:13
 returns : tie.Need-returns Inv-loop μ-loop
-unfolding lines-of
+unfolding lines-of first-unknown known-number
 returns c =
     passing-wrong _ _ _ _ _ (c .before .before .before .before .loop .inv) (omega arith)
     (sym (known-here _ _ _ _ _ _ (c .before .before .nth .ensures .1) (c .before .is-known .ensures)) ∙ not-true _ (c .if1 .taken))
@@ -47,7 +48,7 @@ returns c =
 -- src/first.rt:33:9
 next-line-requires : tie.Need-next-line-requires Inv-loop μ-loop
 next-line-requires c κs =
-    let g = c .before .before .before .before .loop .inv in (g .inside, passing-row _ _ _ _ _ g (omega arith) .0)
+    let g = c .before .before .before .before .loop .inv in (g .inside, passing-row _ _ _ _ _ g (omega arith) .closed)
 
 -- src/first.rt:34:9
 add-i : tie.Need-add-i Inv-loop μ-loop
@@ -67,7 +68,7 @@ loop-again c =
 
 -- src/first.rt:16:1
 returns-2 : tie.Need-returns-2 Inv-loop μ-loop
-unfolding lines-of
+unfolding lines-of first-unknown known-number
 returns-2 c =
     passing-end _ _ _ _ _ (c .before .loop .inv) (omega arith)
 

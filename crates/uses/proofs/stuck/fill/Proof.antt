@@ -29,7 +29,7 @@ nth-requires : tie.Need-nth-requires Inv-loop μ-loop
 nth-requires c κs =
     let g = c .before .loop .inv .1 in
     let row = passing-row _ _ _ _ _ g (omega arith) in
-    (g .inside, (row .0, (row .1, c .before .before .before .before .pre .1 .1 .0)))
+    (g .inside, (row .closed, (row .numbers, omega (arith, row .wide, c .before .before .before .before .pre .1 .1 .0))))
 
 -- src/stuck.rt:55:25
 source-requires : tie.Need-source-requires Inv-loop μ-loop
@@ -54,7 +54,7 @@ element-write-out c =
 -- src/stuck.rt:56:9
 next-line-requires : tie.Need-next-line-requires Inv-loop μ-loop
 next-line-requires c κs =
-    let g = c .before .before .before .before .loop .inv .1 in (g .inside, passing-row _ _ _ _ _ g (omega arith) .0)
+    let g = c .before .before .before .before .loop .inv .1 in (g .inside, passing-row _ _ _ _ _ g (omega arith) .closed)
 
 -- src/stuck.rt:57:9
 add-i : tie.Need-add-i Inv-loop μ-loop

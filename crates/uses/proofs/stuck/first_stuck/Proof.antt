@@ -49,7 +49,7 @@ returns c =
 next-line-requires : tie.Need-next-line-requires Inv-loop μ-loop
 next-line-requires c κs =
     let g = c .before .before .before .loop .inv (c .before .before .before .before .before .before .args .c) refl refl (c .before .before .before .before .before .before .pre .1 .1) in
-    (g .inside, passing-row _ _ _ _ _ g (omega arith) .0)
+    (g .inside, passing-row _ _ _ _ _ g (omega arith) .closed)
 
 -- src/stuck.rt:80:9
 add-i : tie.Need-add-i Inv-loop μ-loop
