@@ -1,6 +1,4 @@
 -- What the nodes of a listing stand for in `meaning`, and the laws that they go by.
-pub mod RowLaws
 pub mod ListingSets
-pub mod ListingProgress
 pub mod ListingSide
 pub mod ListingNode

@@ -16,7 +16,7 @@ use Rattle.sets.specs.declared.picks.Judged.{Judged}
 use Rattle.sets.specs.Forms.{KeptIs, KeptAll}
 use Rattle.sets.specs.Keeping.{kept-over, kept-all, kept-spent, kept-in}
 use Rattle.sets.specs.Judging.{JudgedIs, JudgedFrom, judged-count, judged-over, judged-spent, judged-in, from-kept}
-use Rattle.branches.specs.ListingProgress.{feed-in, feed-out, feed-nothing, feed-in-twice, feed-out-twice}
+use Rattle.rows.specs.ListingProgress.{feed-in, feed-out, feed-nothing, feed-in-twice, feed-out-twice}
 
 -- the set of a judged one, as it was kept
 abbrev pub kept-of : Judged → Kept

@@ -1,3 +1,2 @@
-// The nodes of a listing, each with the two below it, and the rows that they write into the lent bytes.
+// The nodes of a listing, each with the two below it.
 pub mod nodes; // the nodes
-pub mod rows; // the row writer

@@ -23,10 +23,10 @@ use Rattle.problem.specs.declared.Checked.the-variants.{Accepted, Refused}
 use Rattle.problem.specs.Answers.{reading-of-answer}
 use Rattle.sets.specs.Asks.{marks-at, asks}
 use Rattle.sets.specs.declared.picks.Judged.{Judged}
-use Rattle.branches.specs.declared.nodes.Progress.{Progress}
-use Rattle.branches.specs.declared.nodes.Progress.the-variants.{Going, Spent, Full}
+use Rattle.rows.specs.declared.found.Progress.{Progress}
+use Rattle.rows.specs.declared.found.Progress.the-variants.{Going, Spent, Full}
 use Rattle.sets.specs.Judging.{JudgedIs, judged-count, judged-spent, judged-in}
-use Rattle.branches.specs.ListingProgress.{progress-of}
+use Rattle.rows.specs.ListingProgress.{progress-of}
 use Rattle.jobs.specs.Outcome.{outcome-of}
 
 -- a report of a number, the decisions and the rows

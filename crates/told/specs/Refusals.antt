@@ -7,7 +7,8 @@ use Rattle.meaning.specs.Calls.{Report}
 use Rattle.text.specs.Ascii.{ascii}
 use Rattle.text.specs.Filled.{filled}
 use Rattle.faults.specs.Places.{around}
-use Rattle.faults.specs.Faults.{fault-of, fault-text}
+use Rattle.faults.specs.Faults.{fault-of}
+use Rattle.fault_texts.specs.FaultTexts.{fault-text}
 use Rattle.told.specs.declared.answers.Job.{Job}
 use Rattle.told.specs.declared.answers.Job.the-variants.{Check, Largest, One, List as Listing}
 

@@ -2,7 +2,6 @@
 // fit, one more than the page has. Every text is that of any bytes, any report and any number: a report need not belong to the file, and
 // bytes past the file's end read as 0.
 mod answers;
-mod lemmas;
 mod refusals;
 
 pub use answers::Job;
@@ -10,5 +9,4 @@ pub use answers::answer_line;
 pub use answers::count_marks;
 pub use answers::marks_line;
 pub use answers::set_line;
-pub use lemmas::lemma_line;
 pub use refusals::refusal_line;

@@ -1,8 +1,8 @@
 // A refusal in plain words: its number, its place, and what stands there.
 use crate::answers::Job;
+use fault_texts::put_fault;
 use faults::places::around;
 use faults::wrong::fault_of;
-use faults::wrong::put_fault;
 use problem::Report;
 use text::put_all;
 use text::put_filled;

@@ -93,7 +93,7 @@ fn tell_circuit_alone(name: &[u8]) {
 
 // A circuit is no problem file.
 fn work_file(order: Order, name: &[u8], file: &[u8]) {
-    if words::is_circuit(file) {
+    if spelling::is_circuit(file) {
         tell_circuit_alone(name);
         return;
     }

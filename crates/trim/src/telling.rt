@@ -17,7 +17,7 @@ fn tell_head(order: Order, job: Job, file: &[u8], r: Report, lent: &[u8]) -> boo
 
 fn tell_lemma(file: &[u8], position: usize) -> bool {
     let mut page = page::line();
-    let end = told::lemma_line(file, position, &mut page);
+    let end = told_lemmas::lemma_line(file, position, &mut page);
     page::show(STDOUT_FILENO, &page, end)
 }
 

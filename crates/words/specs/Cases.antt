@@ -4,10 +4,10 @@ use mathlib.Core.Path.{_≡_, refl}
 use mathlib.Core.Bool.{Bool, true, false}
 use mathlib.Core.List.{List, [], _∷_}
 use Rattle.text.specs.Ascii.{ascii}
-use Rattle.words.specs.Words.{same, is-option}
-use Rattle.words.specs.Numbers.{is-digit, all-digits, is-number, value-after, value, up-to, number-of}
-use Rattle.words.specs.declared.number.Number.{Number}
-use Rattle.words.specs.declared.number.Number.the-variants.{Value, Over, Not}
+use Rattle.spelling.specs.Words.{same, is-option}
+use Rattle.spelling.specs.Numbers.{is-digit, all-digits, is-number, value-after, value, up-to, number-of}
+use Rattle.spelling.specs.declared.number.Number.{Number}
+use Rattle.spelling.specs.declared.number.Number.the-variants.{Value, Over, Not}
 use Rattle.words.specs.declared.order.Job.{Job}
 use Rattle.words.specs.declared.order.Job.the-variants.{Awaited, Check, Largest, One, List as Listing, Problem, Help, Version}
 use Rattle.words.specs.declared.order.Fault.{Fault}

@@ -7,10 +7,10 @@ use native.Mathlib.Omega.{arith}
 use lib.Dec.{eqb, ltb}
 use borrow.Author.Tests.{ltb-false}
 use Rattle.text.specs.Ascii.{ascii}
-use Rattle.words.specs.Words.{same, is-option}
-use Rattle.words.specs.Numbers.{is-number, value, up-to, number-of}
-use Rattle.words.specs.declared.number.Number.{Number}
-use Rattle.words.specs.declared.number.Number.the-variants.{Value, Over, Not}
+use Rattle.spelling.specs.Words.{same, is-option}
+use Rattle.spelling.specs.Numbers.{is-number, value, up-to, number-of}
+use Rattle.spelling.specs.declared.number.Number.{Number}
+use Rattle.spelling.specs.declared.number.Number.the-variants.{Value, Over, Not}
 use Rattle.words.specs.declared.order.Job.{Job}
 use Rattle.words.specs.declared.order.Order.{Order}
 use Rattle.words.specs.Orders.{budget-most, space-most, begun, faulty, awaited, most-words, job-of, with-budget, with-space}

@@ -1,13 +1,7 @@
 // The words of a command line of the program `trim`, read one after another into an order.
-mod compare;
-mod number;
 mod order;
 mod taking;
 
-pub use compare::is_circuit;
-pub use compare::same;
-pub use number::Number;
-pub use number::read_number;
 pub use order::Fault;
 pub use order::Job;
 pub use order::Order;

@@ -1,5 +1,5 @@
 // The order that a command line gives, and what each word may add to it.
-use crate::number::Number;
+use spelling::Number;
 ghost use mathlib.Core.Path.{_≡_};
 ghost use Rattle.words.specs.Orders.{begun, faulty, awaited, «most-words», «needs-lemmas», «take-job»};
 ghost use Rattle.words.specs.Orders.{«with-fault», «with-job», «with-marks», «with-awaiting», «with-lemmas»};

@@ -1,7 +1,4 @@
 // The words of a command line, taken one after another.
-use crate::compare::is_option;
-use crate::compare::same;
-use crate::number::read_number;
 use crate::order::Fault;
 use crate::order::Job;
 use crate::order::Order;
@@ -9,6 +6,9 @@ use crate::order::awaited;
 use crate::order::faulty;
 use crate::order::most_words;
 use crate::order::needs_lemmas;
+use spelling::is_option;
+use spelling::read_number;
+use spelling::same;
 ghost use mathlib.Core.Path.{_≡_};
 ghost use Rattle.words.specs.Orders.{«job-of», «is-input», «take-file», «take-lemmas», «take-marks», «take-asked»};
 ghost use Rattle.words.specs.Orders.{«take-option», «take-named», «take-plain», «take-open», «take-word»};

@@ -8,7 +8,7 @@ use Rattle.jobs.proofs.marks.leave.Reads as reads
 use Rattle.jobs.proofs.marks.leave.Lts as lts
 use Rattle.jobs.proofs.marks.answered.Reads as answered-reads
 use Rattle.jobs.proofs.marks.refused.Reads as refused-reads
-use Rattle.branches.proofs.rows.write_row.Reads as write-row-reads
+use Rattle.rows.proofs.row.write_row.Reads as write-row-reads
 
 -- src/marks.rt:58:9
 refused-requires : tie.Need-refused-requires

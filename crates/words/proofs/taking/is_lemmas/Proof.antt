@@ -1,6 +1,6 @@
 -- `words::taking::is_lemmas` makes the definition's tests. Assumes nothing.
 use mathlib.Core.Path.{sym, ap, _∙_}
-use Rattle.words.specs.WordLaws.{passed}
+use Rattle.spelling.specs.WordLaws.{passed}
 use Rattle.words.specs.declared.order.Order.{Order}
 use Rattle.words.specs.Orders.{is-lemmas}
 use borrow.Author.Needs.{needs}

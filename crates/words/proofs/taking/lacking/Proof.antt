@@ -1,5 +1,5 @@
 -- `words::taking::lacking` makes the definition's tests, one after another. Assumes nothing.
-use Rattle.words.specs.WordLaws.{chosen, passed}
+use Rattle.spelling.specs.WordLaws.{chosen, passed}
 use mathlib.Core.Path.{sym, _∙_}
 use Rattle.words.specs.Orders.{lacking}
 use borrow.Author.Needs.{needs}

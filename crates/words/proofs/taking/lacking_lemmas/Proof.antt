@@ -1,5 +1,5 @@
 -- `words::taking::lacking_lemmas` makes the definition's tests. Assumes nothing.
-use Rattle.words.specs.WordLaws.{passed}
+use Rattle.spelling.specs.WordLaws.{passed}
 use mathlib.Core.Path.{sym, _∙_}
 use Rattle.words.specs.Orders.{lacking-lemmas}
 use borrow.Author.Needs.{needs}

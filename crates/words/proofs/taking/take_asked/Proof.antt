@@ -1,6 +1,6 @@
 -- `words::taking::take_asked` makes the definition's tests. Assumes nothing.
 use mathlib.Core.Path.{sym, _∙_}
-use Rattle.words.specs.WordLaws.{chosen, passed}
+use Rattle.spelling.specs.WordLaws.{chosen, passed}
 use borrow.Author.Tests.{lt-ltb, le-ltb}
 use Rattle.words.specs.Orders.{take-asked}
 use borrow.Author.Needs.{needs}

@@ -1,5 +1,5 @@
 -- `words::taking::take_file` makes the definition's tests. Assumes nothing.
-use Rattle.words.specs.WordLaws.{chosen}
+use Rattle.spelling.specs.WordLaws.{chosen}
 use mathlib.Core.Path.{sym, _∙_}
 use borrow.Author.Tests.{not-true, not-false}
 use Rattle.words.specs.Orders.{take-file}

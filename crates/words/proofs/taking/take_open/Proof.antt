@@ -1,5 +1,5 @@
 -- `words::taking::take_open` makes the definition's tests. Assumes nothing.
-use Rattle.words.specs.WordLaws.{chosen, passed}
+use Rattle.spelling.specs.WordLaws.{chosen, passed}
 use mathlib.Core.Path.{sym, _∙_}
 use Rattle.words.specs.Orders.{take-open}
 use borrow.Author.Needs.{needs}

@@ -7,10 +7,10 @@ use borrow.Fn.PlainCycle.{is, and}
 use Rattle.meaning.specs.Rules
 use Rattle.laws.specs.Feed
 use Rattle.sets.specs.Asks.{marks-at, asks}
-use Rattle.branches.specs.declared.nodes.Progress.{Progress}
-use Rattle.branches.specs.declared.nodes.Progress.the-variants.{Going}
+use Rattle.rows.specs.declared.found.Progress.{Progress}
+use Rattle.rows.specs.declared.found.Progress.the-variants.{Going}
 use Rattle.branches.specs.ListingSets.{place-of, PlaceIn}
-use Rattle.branches.specs.ListingProgress.{progress-of, Sound, sound-in}
+use Rattle.rows.specs.ListingProgress.{progress-of, Sound, sound-in}
 use Rattle.branches.specs.ListingNode.{branch-none, branch-then}
 use Rattle.branches.proofs.nodes.branch.Reads as branch
 use Rattle.branches.proofs.nodes.+branch+exclude+node.Lts-branch as branch-lts

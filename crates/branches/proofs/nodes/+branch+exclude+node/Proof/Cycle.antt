@@ -10,10 +10,10 @@ use borrow.Fn.Kinds.{In}
 use borrow.Fn.PlainCycle.{Measures, is, falls, and}
 use Rattle.meaning.specs.Rules
 use Rattle.laws.specs.Feed
-use Rattle.branches.specs.declared.nodes.Progress.{Progress}
-use Rattle.branches.specs.declared.nodes.Progress.the-variants.{Going, Spent, Full}
-use Rattle.branches.specs.ListingProgress.{progress-of}
-use Rattle.branches.proofs.nodes.Progress.{the-type}
+use Rattle.rows.specs.declared.found.Progress.{Progress}
+use Rattle.rows.specs.declared.found.Progress.the-variants.{Going, Spent, Full}
+use Rattle.rows.specs.ListingProgress.{progress-of}
+use Rattle.rows.proofs.found.Progress.{the-type}
 use Rattle.branches.proofs.nodes.branch.Reads as branch
 use Rattle.branches.proofs.nodes.branch.Kinds as branch-kinds
 use Rattle.branches.proofs.nodes.+branch+exclude+node.Lts-branch as branch-lts
@@ -25,7 +25,7 @@ use Rattle.branches.proofs.nodes.node.Kinds as node-kinds
 use Rattle.branches.proofs.nodes.+branch+exclude+node.Lts-node as node-lts
 use Rattle.branches.proofs.nodes.lowest.Reads as lowest-reads
 use Rattle.branches.proofs.nodes.narrowed.Reads as narrowed-reads
-use Rattle.branches.proofs.nodes.row_of.Reads as row-of-reads
+use Rattle.rows.proofs.found.row_of.Reads as row-of-reads
 use Rattle.sets.proofs.questions.failing.Reads as failing-reads
 use Rattle.sets.proofs.members.more.Reads as more-reads
 

@@ -7,7 +7,7 @@ use mathlib.Core.Bool.{Bool}
 use borrow.Fn.PlainCycle.{is}
 use Rattle.meaning.specs.Rules
 use Rattle.sets.specs.Told.{Told, told-by}
-use Rattle.branches.specs.ListingProgress.{Ready}
+use Rattle.rows.specs.ListingProgress.{Ready}
 use Rattle.branches.specs.ListingNode.{node-none, node-spent, node-row, node-below}
 use Rattle.branches.proofs.nodes.branch.Reads as branch
 use Rattle.branches.proofs.nodes.node.Reads as node

@@ -1,0 +1,2 @@
+-- Which text is told of what is wrong with a file.
+pub mod FaultTexts
