@@ -6,7 +6,7 @@
  * writable ones (a length of 0 takes any pointer that is not null), `report` to seven words, and no two of them overlap. A call reads nothing
  * else, writes nothing else, keeps nothing, and takes no lock; calls may run side by side. It needs up to 1.5 MiB of stack.
  *
- * Each call returns the number of its answer, 0 for an answer and 1 to 14 for a refusal, and fills `report`:
+ * Each call returns the number of its answer, 0 for an answer and 1 to 15 for a refusal, and fills `report`:
  *
  *   report[0]  the number again
  *   report[1]  the place of a refusal 1 to 8 or 13: a byte offset in the file, or in the text that 13 speaks of

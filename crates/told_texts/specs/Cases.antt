@@ -103,7 +103,7 @@ limits : (limit-line (ascii "F") (ascii "L") (limit-of (ascii "aag 0 0 0 1 0\n0\
     ∷ ascii "refusal 14: the circuit F: no bad literal and no output, so nothing says which states are bad: write an assert, or give the top module one output port that is 1 in a bad state\n"
     ∷ ascii "refusal 14: the circuit F: outputs: 2, but one is wanted, which is 1 in a bad state: keep that output port alone in the top module\n"
     ∷ ascii "refusal 14: the circuit F: bad literals: 2, but one is wanted: join the asserts into one, assert (a && b)\n"
-    ∷ ascii "refusal 14: the circuit F: outputs: 1, bad literals: 1, but one of both together is wanted: take the output ports out of the top module, or the assert\n"
+    ∷ ascii "refusal 14: the circuit F: outputs: 1, bad literals: 1, but one literal in all is wanted: keep one assert and no output port of the top module, or one output port and no assert\n"
     ∷ [])
 unfolding limit-line limit-head filled Digits.decimal Digits.digits Digits.digit shown shown-byte
     limit-of header-limit width-limit property-limit bads-limit lemmas-limit long-lemma

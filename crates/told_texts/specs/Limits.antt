@@ -42,7 +42,7 @@ limit-text (Outputs met) =
     filled (ascii ": outputs: #, but one is wanted, which is 1 in a bad state: keep that output port alone in the top module\n") met 0 0
 limit-text (Bads met) = filled (ascii ": bad literals: #, but one is wanted: join the asserts into one, assert (a && b)\n") met 0 0
 limit-text (Both outputs bads) =
-    filled (ascii ": outputs: #, bad literals: #, but one of both together is wanted: take the output ports out of the top module, or the assert\n") outputs bads 0
+    filled (ascii ": outputs: #, bad literals: #, but one literal in all is wanted: keep one assert and no output port of the top module, or one output port and no assert\n") outputs bads 0
 limit-text (Lemmas met) = filled (ascii ": lines: #, but 128 lemmas are the most\n") met 0 0
 limit-text (LongLemma line met) = filled (ascii ": literals on line #: #, but 64 are the most\n") line met 0
 limit-text Clauses =

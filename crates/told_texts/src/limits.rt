@@ -88,7 +88,7 @@ fn put_limit(out: &mut [u8], at: usize, limit: Limit) -> usize
         Limit::Both(outputs, bads) => put_filled(
             out,
             at,
-            b": outputs: #, bad literals: #, but one of both together is wanted: take the output ports out of the top module, or the assert\n",
+            b": outputs: #, bad literals: #, but one literal in all is wanted: keep one assert and no output port of the top module, or one output port and no assert\n",
             outputs as u64,
             bads as u64,
             0,

@@ -73,7 +73,7 @@ help-text =
     ++ (ascii "  trim --version                     the version\n"
     ++ (ascii "\n"
     ++ (ascii "FILE      a problem file; - is standard input\n"
-    ++ (ascii "CIRCUIT   a circuit in ASCII AIGER (aag); - is standard input\n"
+    ++ (ascii "CIRCUIT   a circuit in ASCII AIGER (aag, of 2007 or 1.9); - is standard input\n"
     ++ (ascii "LEMMAS    a lemma a line: numbers of latches, counted from 1, with - before one that is negated, and\n"
     ++ (ascii "          a 0 at the end; - is standard input. --lemmas LEMMAS stands anywhere after the job\n"
     ++ (ascii "BUDGET    how many decisions may be made, 0 to 4294967295; 1000000 where none is given\n"

@@ -155,7 +155,7 @@ pub fn help_text(out: &mut [u8]) -> usize
         trim --help                        this text\n  \
         trim --version                     the version\n\n\
         FILE      a problem file; - is standard input\n\
-        CIRCUIT   a circuit in ASCII AIGER (aag); - is standard input\n\
+        CIRCUIT   a circuit in ASCII AIGER (aag, of 2007 or 1.9); - is standard input\n\
         LEMMAS    a lemma a line: numbers of latches, counted from 1, with - before one that is negated, and\n          \
         a 0 at the end; - is standard input. --lemmas LEMMAS stands anywhere after the job\n\
         BUDGET    how many decisions may be made, 0 to 4294967295; 1000000 where none is given\n\

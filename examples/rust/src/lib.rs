@@ -1,5 +1,5 @@
 //! The proved subset trimmer for Rust: its C functions as safe ones. Four jobs read a problem file, and the same four, with
-//! `circuit_` before their names, a circuit in ASCII AIGER with its lemmas in a second text.
+//! `circuit_` before their names, a circuit in ASCII AIGER (of 2007 or 1.9) with its lemmas in a second text.
 //!
 //! Any bytes may be passed as the file or the texts, with any budget: what is no problem file and no circuit is refused, and
 //! nothing needs to be checked before. A call keeps nothing and takes no lock, so calls may run side by side. It needs up to 1.5 MiB of stack:
@@ -52,7 +52,7 @@ pub use refusal::{Refusal, Text};
 use library::{Report, Texts};
 
 /// No problem that is built from a circuit takes more bytes as a file.
-const FILE_MOST: usize = 35_666;
+const FILE_MOST: usize = 46_220;
 
 /// The sizes of an accepted problem: of a file, or built from a circuit and its lemmas.
 #[derive(Clone, Copy, Debug, PartialEq, Eq)]

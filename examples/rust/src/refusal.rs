@@ -19,7 +19,7 @@ pub struct Refusal {
 /// One of the two texts that a job on a circuit is given.
 #[derive(Clone, Copy, Debug, PartialEq, Eq)]
 pub enum Text {
-    /// The circuit, in ASCII AIGER.
+    /// The circuit, in ASCII AIGER of 2007 or 1.9.
     Circuit,
     /// The lemmas, one a line.
     Lemmas,
@@ -40,7 +40,7 @@ impl Refusal {
             9 => "fewer bytes were lent for marks than there are lemmas",
             10 => "the budget of decisions is used up; a larger one may do",
             11 => "no subset of these candidates is safe and inductive, which does not say that the loader is unsafe",
-            12 => "a row was found that does not fit the lent space",
+            12 => "a row was found, or a problem file written, that does not fit the lent space",
             13 => "a line is not as the text's format says",
             14 => "the circuit or its lemmas are over a limit, or there is no latch, or not just one output or bad literal",
             15 => "the circuit has justice or fairness, which are not read",
@@ -87,7 +87,7 @@ mod tests {
         let cut = Refusal { number: 2, place: Some(42), text: None, decisions: 0 };
         assert_eq!(cut.to_string(), "refusal 2 at byte 42: a record is cut short");
         let full = Refusal { number: 12, place: None, text: None, decisions: 3 };
-        assert_eq!(full.to_string(), "refusal 12: a row was found that does not fit the lent space");
+        assert_eq!(full.to_string(), "refusal 12: a row was found, or a problem file written, that does not fit the lent space");
     }
 
     #[test]

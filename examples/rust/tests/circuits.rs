@@ -1,4 +1,4 @@
-//! Circuits with their lemmas, through the wrapper: the two real ones, the pairs that are read, and every refused pair of
+//! Circuits with their lemmas, through the wrapper: the three real ones, the pairs that are read, and every refused pair of
 //! `cases/circuits/refusals` with the number and the place that its index gives.
 
 mod common;
@@ -34,9 +34,19 @@ fn the_ledger_is_read() {
     assert_eq!(circuit_one(&circuit, &lemmas, 9), Err(spent));
 }
 
+/// A circuit of edition 1.9, with start values, a bad literal and constraints.
+#[test]
+fn the_assumed_loader_is_read() {
+    let (circuit, lemmas) = pair("assumed");
+    assert_eq!(circuit_check(&circuit, &lemmas), Ok(Accepted { n: 8, m: 117, k: 13 }));
+    let set = circuit_one(&circuit, &lemmas, u32::MAX).unwrap();
+    assert_eq!((set.positions(), set.decisions), (vec![0, 1, 2, 3, 4, 5, 7, 8, 10, 11, 12], 2_972));
+}
+
+/// The last has as many bytes as any.
 #[test]
 fn the_problem_of_a_circuit_is_a_file() {
-    for (name, len) in [("loader", 9_860), ("ledger", 6_252)] {
+    for (name, len) in [("loader", 9_860), ("ledger", 6_252), ("assumed", 6_106), ("read/newer-most", 46_220)] {
         let (circuit, lemmas) = pair(name);
         let file = circuit_problem(&circuit, &lemmas).unwrap();
         assert_eq!(file.len(), len, "{name}");
