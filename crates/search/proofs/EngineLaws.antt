@@ -27,12 +27,13 @@ use Rattle.search.specs.declared.Found.{Found}
 use Rattle.search.specs.declared.Found.the-variants.{Yes, No, Spent}
 use Rattle.search.proofs.Found
 use Rattle.search.proofs.Next.{the-type}
-use Rattle.search.specs.Sweep.{Pass, passed, try, sweep}
+use Rattle.passes.specs.Sweep.{Pass, passed, try, sweep}
 use Rattle.search.specs.Forms.{pass-at, yes-or-no, bounded, later, ended-by}
 use Rattle.search.specs.Places.{Sound, parts-clauses}
 use Rattle.search.specs.Engine.{search-at, tried, Ready}
 use Rattle.search.proofs.BudgetLaws.{under, none-left, first-ends, second-wanted, second-room, second-ends}
-use Rattle.search.proofs.SweepLaws.{sweep-append, Turned}
+use Rattle.passes.proofs.PassLaws.{sweep-append}
+use Rattle.search.proofs.SweepLaws.{Turned}
 
 module _ (file : List ℕ) (on : List Bool) (q : Parts) where
   abbrev first : List Clause

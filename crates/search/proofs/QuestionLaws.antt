@@ -23,8 +23,9 @@ use Rattle.format.specs.Section.{next-record, clause-at, section, Inside, probl
 use Rattle.search.specs.declared.Question.{Question}
 use Rattle.search.specs.declared.Question.the-variants.{Initiation, Step, Safety}
 use Rattle.search.specs.Engine.{search-at}
-use Rattle.search.specs.Places.{Records, Denials, parts-clauses, place, Asks}
-use Rattle.search.proofs.PlaceLaws.{pred-suc, marks-none, half-twice}
+use Rattle.passes.specs.Places.{Records, Denials}
+use Rattle.search.specs.Places.{parts-clauses, place, Asks}
+use Rattle.passes.proofs.PlaceLaws.{pred-suc, marks-none, half-twice}
 
 pub place-more : (file : List ℕ) (at left : ℕ) → 0 < left → place file at left ≡ place file (next-record file at) (left - 1)
 unfolding place

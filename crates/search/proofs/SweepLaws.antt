@@ -17,20 +17,11 @@ use Rattle.laws.specs.Setting.{unset-count, variable-negation, unset-both, leng
 use Rattle.laws.specs.Moves
 use Rattle.laws.specs.Moves.{UnsetIn, first-at, forced-unset, open-unset, unset-in-range, some-open, false-at}
 use Rattle.laws.specs.Forced.{forced-any, forced-closed, all-satisfied, decided, true-not-only-false}
-use Rattle.search.specs.Sweep
-use Rattle.search.specs.Sweep.{met, failed, one, more, status, Next, satisfied, forced, try, Pass, closed, passed, opened, met-by, meet, sweep}
+use Rattle.passes.specs.Sweep
+use Rattle.passes.specs.Sweep.{met, failed, one, more, status, Next, satisfied, forced, try, Pass, closed, passed, opened, met-by, meet, sweep}
 use Rattle.search.specs.Engine.{search-at, tried, Ready}
-use Rattle.search.proofs.StatusLaws.{Means, status-means}
-
-pub sweep-append : (cs ds : List Clause) (p : Pass) → sweep (cs ++ ds) p ≡ sweep ds (sweep cs p)
-unfolding sweep
-sweep-append [] ds p = refl
-sweep-append (c ∷ cs) ds p = sweep-append cs ds (meet c p)
-
-pub sweep-closed : (cs : List Clause) → sweep cs closed ≡ closed
-unfolding sweep meet
-sweep-closed [] = refl
-sweep-closed (c ∷ cs) = sweep-closed cs
+use Rattle.passes.proofs.StatusLaws.{Means, status-means}
+use Rattle.passes.proofs.PassLaws.{sweep-closed}
 
 -- what a pass has forced counts for one, so that it leaves fewer unset
 unfoldable extra : Next → ℕ

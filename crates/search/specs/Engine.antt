@@ -6,7 +6,7 @@ use lib.ListN.{length}
 use Rattle.meaning.specs.Clauses.{Literal, Clause, variable, negation}
 use Rattle.meaning.specs.Search.{Setting, with-literal, Ending, can, cannot, then-false, search-from}
 use Rattle.laws.specs.Setting.{unset-count}
-use Rattle.search.specs.Sweep.{Pass, closed, passed, satisfied, forced, try}
+use Rattle.passes.specs.Sweep.{Pass, closed, passed, satisfied, forced, try}
 
 -- the search from a setting, with fuel for all that it leaves unset
 unfoldable pub search-at : List Clause → Setting → Ending

@@ -1,37 +1,23 @@
 -- What the code's types stand for: settings, sets of positions, questions, answers within a budget, and passes.
-use Prim.Native.Nat.{ℕ, zero, suc, _+_, _^_, _<_}
+use Prim.Native.Nat.{ℕ, _+_, _^_, _<_}
 use mathlib.Core.Bool.{Bool, true, false}
-use mathlib.Core.Option.{Option, none, some}
-use mathlib.Core.List.{List, map}
 use lib.ListN.{take}
 use lib.Dec.{ltb}
-use Rattle.meaning.specs.Clauses.{pos, neg}
 use Rattle.meaning.specs.Meaning
 use Rattle.meaning.specs.Search
 use Rattle.meaning.specs.Rules
 use Rattle.meaning.specs.Rules.{Answer}
 use Rattle.format.specs.Forms.{literal-of}
-use Rattle.search.specs.Sweep as spec
+use Rattle.passes.specs.Sweep as spec
+use Rattle.passes.specs.Forms.{entries}
 use Rattle.search.specs.declared.Setting.{Setting}
 use Rattle.search.specs.declared.Marks.{Marks}
 use Rattle.search.specs.declared.Question.{Question}
 use Rattle.search.specs.declared.Question.the-variants.{Initiation, Step, Safety}
 use Rattle.search.specs.declared.Found.{Found}
 use Rattle.search.specs.declared.Found.the-variants.{Yes, No, Spent}
-use Rattle.search.specs.declared.Status.{Status}
-use Rattle.search.specs.declared.Status.the-variants.{Holds, Fails, One, More}
 use Rattle.search.specs.declared.Next.{Next}
 use Rattle.search.specs.declared.Next.the-variants.{Satisfied, Try, Forced, Closed}
-use Rattle.search.specs.declared.Tally.{Tally}
-
--- an entry of a setting: 0 unset, 1 true, 2 false
-unfoldable pub entry : ℕ → Option Bool
-entry zero = none
-entry (suc zero) = some true
-entry (suc (suc x)) = some false
-
-unfoldable pub entries : List ℕ → Search.Setting
-entries xs = map entry xs
 
 abbrev pub setting-of : Setting → Search.Setting
 setting-of s = entries (s .values)
@@ -75,28 +61,11 @@ Counts d (Yes e) = d + e < 2 ^ 64
 Counts d (No e) = d + e < 2 ^ 64
 Counts d Spent = Unit {0}
 
-abbrev pub status-of : Status → spec.Status
-status-of Holds = spec.met
-status-of Fails = spec.failed
-status-of (One l) = spec.one (literal-of l)
-status-of (More l) = spec.more (literal-of l)
-
 abbrev pub pass-at : Next → Search.Setting → spec.Pass
 pass-at Satisfied v = spec.passed v spec.satisfied
 pass-at (Try l) v = spec.passed v (spec.try (literal-of l))
 pass-at Forced v = spec.passed v spec.forced
 pass-at Closed v = spec.closed
-
--- a pass so far, held in two numbers: a kind, and the variable to try
-abbrev pub tallied : ℕ → ℕ → Search.Setting → spec.Pass
-tallied zero x v = spec.passed v spec.satisfied
-tallied (suc zero) x v = spec.passed v spec.forced
-tallied (suc (suc zero)) x v = spec.closed
-tallied (suc (suc (suc zero))) x v = spec.passed v (spec.try (pos x))
-tallied (suc (suc (suc (suc k)))) x v = spec.passed v (spec.try (neg x))
-
-abbrev pub tally-at : Tally → Search.Setting → spec.Pass
-tally-at t v = tallied (t .kind) (t .variable) v
 
 -- the answer where nothing is left to try
 abbrev pub ended-by : Next → Found

@@ -1,7 +1,4 @@
--- What the code's types stand for in `meaning`; passes over clauses as the engine makes them, and what they say of the search; where a question's
--- clauses stand in a file.
-pub mod Sweep
-pub mod Seen
+-- What the code's types stand for in `meaning`; what passes say of the search; where a question's clauses stand in a file.
 pub mod Forms
 pub mod Engine
 pub mod Places

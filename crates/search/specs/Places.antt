@@ -1,34 +1,19 @@
 -- Where a question's clauses stand in a file, and what makes them safe to read there.
-use Prim.Native.Nat.{ℕ, zero, suc, _+_, _*_, _≤_}
+use Prim.Native.Nat.{ℕ, zero, suc, _≤_}
 use mathlib.Core.Path.{_≡_}
 use mathlib.Core.Bool.{Bool}
 use mathlib.Core.List.{List, _++_, map}
-use lib.ListN.{length, take}
+use lib.ListN.{take}
 use Rattle.meaning.specs.Clauses.{Clause}
 use Rattle.meaning.specs.Meaning.{at-marks}
 use Rattle.meaning.specs.File.{literals}
 use Rattle.meaning.specs.Rules.{denied, next, clauses}
-use Rattle.laws.specs.Within.{ClauseWithin, Within}
-use Rattle.format.specs.Section.{next-record, section, Inside, problem-at}
+use Rattle.format.specs.Section.{next-record, section, problem-at}
 use Rattle.format.specs.declared.Problem.{Problem}
+use Rattle.passes.specs.Places.{Records, Denials}
 use Rattle.search.specs.declared.Parts.{Parts}
 use Rattle.search.specs.declared.Question.{Question}
 use Rattle.search.specs.Forms.{question-of}
-
--- so many literals lie inside the file, each of a variable up to 512
-pub record Literals (file : List ℕ) (at count : ℕ) : Type 0 where
-  pub inside : at + 2 * count ≤ length file
-  pub within : ClauseWithin 512 (literals file at count)
-
--- so many records lie inside the file, each literal of a variable up to 512
-pub record Records (file : List ℕ) (at count : ℕ) : Type 0 where
-  pub inside : Inside file at count
-  pub within : Within 512 (section file at count)
-
--- so many literals lie inside the file, each of a variable up to 512 with a number added
-pub record Denials (file : List ℕ) (at count added : ℕ) : Type 0 where
-  pub inside : at + 2 * count ≤ length file
-  pub within : ClauseWithin 512 (map (next added) (literals file at count))
 
 -- the clauses of a question, as they stand in a file
 unfoldable pub parts-clauses : List ℕ → List Bool → Parts → List Clause

@@ -1,11 +1,10 @@
-// The questions of a problem file, asked: partial settings, a question's clauses read in place from the file, and the search with its count of
+// The questions of a problem file, asked: partial settings, where a question's clauses stand in the file, and the search with its count of
 // decisions. `ask` is the one way in.
 use engine::decide;
 use format::Literal;
 use format::Problem;
 use places::parts_of;
 
-mod clauses; // a pass over clauses
 mod engine; // the search
 mod places; // where a question's clauses stand
 mod values; // settings by value
@@ -39,15 +38,6 @@ pub enum Found {
     Spent,
 }
 
-// What a clause comes to at a setting: a true literal; only false ones; or no true one and an unset literal at one place, or at more, with the
-// first of them.
-enum Status {
-    Holds,
-    Fails,
-    One(Literal),
-    More(Literal),
-}
-
 // What a pass over clauses has found: every one has a true literal; a literal to try; literals that were forced, and are set; a clause with only
 // false ones.
 enum Next {
@@ -55,13 +45,6 @@ enum Next {
     Try(Literal),
     Forced,
     Closed,
-}
-
-// What a pass has found so far, held in two numbers, so that it runs in registers. The kind: 0, every clause has a true literal; 1, literals were
-// forced, and are set; 2, a clause has only false ones; 3, a variable to try; 4, the negation of one.
-struct Tally {
-    kind: usize,
-    variable: usize,
 }
 
 // Where the clauses of a question stand in the file, in the question's order: records, the lemmas that are marked, records again, and the literals

@@ -1,12 +1,13 @@
-// Partial settings by value, and what a literal is worth at one.
+// Partial settings by value.
 use crate::Setting;
 use format::Literal;
+use passes::set_true;
 ghost use mathlib.Core.Path.{_≡_};
 ghost use Prim.Native.Nat.{_<_};
 ghost use Rattle.meaning.specs.Clauses.{variable};
-ghost use Rattle.meaning.specs.Search.{blank, value, «with-literal»};
+ghost use Rattle.meaning.specs.Search.{blank, «with-literal»};
 ghost use Rattle.format.specs.Forms.{«literal-of»};
-ghost use Rattle.search.specs.Forms.{entry, entries, «setting-of»};
+ghost use Rattle.search.specs.Forms.{«setting-of»};
 
 impl Setting {
     // The setting in which every variable is unset.
@@ -23,36 +24,5 @@ impl Setting {
     {
         set_true(&mut self.values, l);
         self
-    }
-}
-
-// A literal is set true, in the entries of a setting that is lent.
-pub fn set_true(values: &mut [u8; 513], l: Literal)
-    requires { ⌜ variable («literal-of» l) < 513 ⌝ }
-    ensures { λ _. ⌜ entries (now (values .exit)) ≡ «with-literal» (entries (now (values .entry))) («literal-of» l) ⌝ }
-{
-    match l {
-        Literal::Pos(x) => values[x] = 1,
-        Literal::Neg(x) => values[x] = 2,
-    }
-}
-
-// The value of a literal, as an entry of a setting: 0 unset, 1 true, 2 false.
-pub fn worth(values: &[u8; 513], l: Literal) -> u8
-    requires { ⌜ variable («literal-of» l) < 513 ⌝ }
-    ensures { λ r. ⌜ entry r ≡ value (entries (now (values .entry))) («literal-of» l) ⌝ }
-{
-    match l {
-        Literal::Pos(x) => values[x],
-        Literal::Neg(x) => {
-            let v = values[x];
-            if v == 0 {
-                return 0;
-            }
-            if v == 1 {
-                return 2;
-            }
-            1
-        }
     }
 }

@@ -17,45 +17,35 @@ use Rattle.rows.proofs.found.put_row.Reads as reads
 use Rattle.rows.proofs.found.put_row.Lts as lts
 use Rattle.rows.proofs.row.write_row.Reads as write-row-reads
 
--- src/nodes.rt:115:14
 mul-at : tie.Need-mul-at
 mul-at c = search needs
 
--- src/nodes.rt:116:21
 add-if1 : tie.Need-add-if1
 add-if1 c = search needs
 
--- src/nodes.rt:117:9
 returns : tie.Need-returns
 returns c = λ budget h. record { is = sym (row-full _ budget _ _ _ h _ (c .if1 .taken)); sound = tt }
 
--- src/nodes.rt:119:15
 sub-write-row : tie.Need-sub-write-row
 sub-write-row c = search needs
 
--- src/nodes.rt:119:15
 part-write-row-start : tie.Need-part-write-row-start
 part-write-row-start c = search needs
 
--- src/nodes.rt:119:15
 part-write-row-end : tie.Need-part-write-row-end
 part-write-row-end c = search needs
 
--- src/nodes.rt:119:5
 write-row-requires : tie.Need-write-row-requires
 write-row-requires c κs = search needs
 
--- src/nodes.rt:120:21
 add-t8 : tie.Need-add-t8
 add-t8 c =
     let s = c .before .before .before .before .before .before in
     omega (arith, rows-below (s .args .k) (s .args .r) (length (s .args .rows .now)) (s .pre .1 .1) (s .pre .1 .0), s .good)
 
--- src/nodes.rt:109:1
 same-length : tie.Need-same-length
 same-length c = search needs
 
--- src/nodes.rt:109:1
 returns-2 : tie.Need-returns-2
 returns-2 c =
     let s = c .before .before .before .before .before .before in

@@ -13,45 +13,36 @@ use Rattle.rows.proofs.found.row_of.Lts as lts
 use Rattle.rows.proofs.found.put_row.Reads as put-row-reads
 use Rattle.sets.proofs.questions.first_yes.Reads as first-yes-reads
 
--- src/nodes.rt:130:50
 sub-first-yes : tie.Need-sub-first-yes
 sub-first-yes c = search needs
 
--- src/nodes.rt:130:9
 first-yes-requires : tie.Need-first-yes-requires
 first-yes-requires c κs = search needs
 
--- src/nodes.rt:132:25
 enum-told : tie.Need-enum-told
 enum-told c = search needs
 
--- src/nodes.rt:133:20
 enum-known-a : tie.Need-enum-known-a
 enum-known-a c = search needs
 
--- src/nodes.rt:133:45
 add-t14 : tie.Need-add-t14
 add-t14 c =
     let first = c .before .before .before in
     let told = told-by _ _ (first .first-yes .ensures) (c .before .a .given .1) in
     omega (arith, told .fits, first .before .before .before .pre .1 .small, first .before .before .before .pre .1 .in-budget)
 
--- src/nodes.rt:134:19
 enum-known-a-2 : tie.Need-enum-known-a-2
 enum-known-a-2 c = search needs
 
--- src/nodes.rt:134:50
 add-put-row : tie.Need-add-put-row
 add-put-row c =
     let first = c .before .before .before .before in
     let told = told-by _ _ (first .first-yes .ensures) (c .before .before .a2 .given .1) in
     omega (arith, told .fits, first .before .before .before .pre .1 .small, first .before .before .before .pre .1 .in-budget)
 
--- src/nodes.rt:134:25
 put-row-requires : tie.Need-put-row-requires
 put-row-requires c κs = search needs
 
--- src/nodes.rt:125:1
 returns : tie.Need-returns
 unfolding smaller
 returns c =
@@ -62,7 +53,6 @@ returns c =
       sound = tt;
     }
 
--- src/nodes.rt:125:1
 returns-2 : tie.Need-returns-2
 unfolding smaller
 returns-2 c =
@@ -74,11 +64,9 @@ returns-2 c =
       sound = (omega (arith, told .fits, s .pre .1 .in-budget), s .pre .1 .fits);
     }
 
--- src/nodes.rt:125:1
 same-length : tie.Need-same-length
 same-length c = search needs
 
--- src/nodes.rt:125:1
 returns-3 : tie.Need-returns-3
 unfolding smaller
 returns-3 c =

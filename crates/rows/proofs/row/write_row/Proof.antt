@@ -20,31 +20,24 @@ Inv-loop row₀ k s d₀ row d = (d ≤ k) × (row ≡ written 0 (take d (s .on)
 abbrev μ-loop : tie.MeasureT-loop
 μ-loop row₀ k s d₀ row d = k - d
 
--- src/rows.rt:24:5
 loop-holds : tie.Need-loop-holds Inv-loop μ-loop
 loop-holds c = (omega arith, row-start (c .before .args .t2 .on) _, refl)
 
--- src/rows.rt:25:23
 element-copy-out-mark : tie.Need-element-copy-out-mark Inv-loop μ-loop
 element-copy-out-mark c = omega arith
 
--- src/rows.rt:25:18
 mark-requires : tie.Need-mark-requires Inv-loop μ-loop
 mark-requires c κs = search needs
 
--- src/rows.rt:25:9
 slice-write-row : tie.Need-slice-write-row Inv-loop μ-loop
 slice-write-row c = omega arith
 
--- src/rows.rt:26:9
 add-d : tie.Need-add-d Inv-loop μ-loop
 add-d c = omega arith
 
--- src/rows.rt:24:5
 loop-less : tie.Need-loop-less Inv-loop μ-loop
 loop-less c = omega arith
 
--- src/rows.rt:24:5
 loop-again : tie.Need-loop-again Inv-loop μ-loop
 loop-again c =
     let a = c .before .before .before .before .before .args in
@@ -56,11 +49,9 @@ loop-again c =
       simp length-set (inv .2),
     )
 
--- src/rows.rt:18:1
 same-length : tie.Need-same-length Inv-loop μ-loop
 same-length c = c .before .loop .inv .2
 
--- src/rows.rt:18:1
 returns : tie.Need-returns Inv-loop μ-loop
 unfolding marks-at
 returns c =

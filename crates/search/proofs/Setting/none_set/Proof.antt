@@ -1,5 +1,5 @@
 -- `Setting::none_set` meets its contract: the entries are all 0.
-use Rattle.search.proofs.EntryLaws.{entries-blank}
+use Rattle.passes.proofs.EntryLaws.{entries-blank}
 use Rattle.search.proofs.Setting.none_set.Statement.{statement}
 use Rattle.search.proofs.Setting.none_set.Tie as tie
 

@@ -14,8 +14,9 @@ use Rattle.laws.specs.Within.{Within}
 use Rattle.laws.specs.Setting.{unset-count, variable-negation}
 use Rattle.format.specs.Forms.{literal-of}
 use Rattle.search.specs.declared.Next.{Next}
-use Rattle.search.specs.Sweep.{passed, try}
-use Rattle.search.specs.Forms.{entries, setting-of, pass-at, bounded}
+use Rattle.passes.specs.Sweep.{passed, try}
+use Rattle.passes.specs.Forms.{entries}
+use Rattle.search.specs.Forms.{setting-of, pass-at, bounded}
 use Rattle.search.specs.Places.{parts-clauses}
 use Rattle.search.specs.Engine.{search-at, Ready}
 use Rattle.search.proofs.BudgetLaws.{bounded-counts}

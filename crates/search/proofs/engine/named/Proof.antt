@@ -1,5 +1,5 @@
 -- `named` meets its contract.
-use Rattle.search.proofs.TallyLaws.{kind-four}
+use Rattle.passes.proofs.TallyLaws.{kind-four}
 use Rattle.search.proofs.engine.named.Statement.{statement}
 use Rattle.search.proofs.engine.named.Tie as tie
 

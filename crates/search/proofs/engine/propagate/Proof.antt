@@ -7,8 +7,9 @@ use lib.ListN.{length}
 use Rattle.meaning.specs.Search.{Setting}
 use Rattle.laws.specs.Setting.{unset-count}
 use Rattle.search.specs.declared.Next.{Next}
-use Rattle.search.specs.Sweep.{Pass, passed, forced}
-use Rattle.search.specs.Forms.{entries, pass-at}
+use Rattle.passes.specs.Sweep.{Pass, passed, forced}
+use Rattle.passes.specs.Forms.{entries}
+use Rattle.search.specs.Forms.{pass-at}
 use Rattle.search.specs.Places.{parts-clauses}
 use Rattle.search.specs.Engine.{search-at}
 use Rattle.search.proofs.SweepLaws.{Turned, swept, ready-before}

@@ -1,7 +1,7 @@
 -- `sweep_all` meets its contract: a pass over lists one after another is the pass over all.
 use borrow.Author.Needs.{needs}
-use Rattle.search.specs.Sweep.{passed, satisfied}
-use Rattle.search.specs.Forms.{entries, tally-at}
+use Rattle.passes.specs.Sweep.{passed, satisfied}
+use Rattle.passes.specs.Forms.{entries, tally-at}
 use Rattle.search.proofs.EngineLaws.{parts-swept}
 use Rattle.search.proofs.engine.sweep_all.Statement.{statement}
 use Rattle.search.proofs.engine.sweep_all.Tie as tie

@@ -6,7 +6,7 @@ use lib.ListN.{length}
 use Rattle.meaning.specs.File.{two-at}
 use Rattle.format.specs.Section.{next-record, Inside}
 use Rattle.search.specs.Places.{place}
-use Rattle.search.proofs.PlaceLaws.{inside-more}
+use Rattle.passes.proofs.PlaceLaws.{inside-more}
 use Rattle.search.proofs.QuestionLaws.{place-more, place-done}
 use Rattle.search.proofs.places.record_at.Statement.{statement}
 use Rattle.search.proofs.places.record_at.Tie as tie
