@@ -16,7 +16,7 @@ use sets::questions::failing;
 use sets::rounds::rounds;
 
 // A position, if there is one.
-#[derive(Drop)]
+#[derive(Clone, Copy)]
 pub enum Place {
     At(usize),
     Nowhere,

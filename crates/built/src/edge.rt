@@ -15,7 +15,7 @@ use sections::find::find;
 use sections::nth::nth;
 
 // A literal by its sign and its variable; variable 0 stands for a constant, which is true where the sign is negative.
-#[derive(Drop)]
+#[derive(Clone, Copy)]
 pub struct Edge {
     pub negative: bool,
     pub variable: usize,

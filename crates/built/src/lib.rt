@@ -1,4 +1,6 @@
 // The problem file that is built from a circuit and its lemmas, written into bytes that the caller lends.
+#![tactic(auto)]
+
 ghost use Rattle.std.specs.Prelude.{◌≡◌, ◌+◌, ◌<◌, ◌≤◌, false, [], ◌++◌, length};
 ghost use Rattle.meaning.specs.LemmaText.{read_lemma_text};
 ghost use Rattle.meaning.specs.Filed.{two, record_bytes, file_of};

@@ -42,6 +42,7 @@ in_cases u v us (inr i) = go (bool_cases (eqb u v))
     go (inr e) = inr (eqb-false u v e, i)
 
 pub position_range : (u : ℕ) (us : List ℕ) → In u us → position u us < length us
+position_range u [] i = elim i [ ]
 position_range u (v ∷ us) i = go (in_cases u v us i) (position_range u us)
   where
     go : (u ≡ v) ⊎ ((u ≡ v → ⊥) × In u us) → (In u us → position u us < length us) → position u (v ∷ us) < suc (length us)
@@ -49,6 +50,7 @@ position_range u (v ∷ us) i = go (in_cases u v us i) (position_range u us)
     go (inr (f, later)) rest = omega (arith, position_later u v us f, rest later)
 
 pub at_position : (u : ℕ) (us : List ℕ) → In u us → get_or us (position u us) 0 ≡ u
+at_position u [] i = elim i [ ]
 at_position u (v ∷ us) i = go (in_cases u v us i) (at_position u us)
   where
     go : (u ≡ v) ⊎ ((u ≡ v → ⊥) × In u us) → (In u us → get_or us (position u us) 0 ≡ u) → get_or (v ∷ us) (position u (v ∷ us)) 0 ≡ u
@@ -56,6 +58,7 @@ at_position u (v ∷ us) i = go (in_cases u v us i) (at_position u us)
     go (inr (f, later)) rest = rw (position_later u v us f) (rest later)
 
 pub position_first : (u : ℕ) (us vs : List ℕ) → In u us → position u (us ++ vs) ≡ position u us
+position_first u [] vs i = elim i [ ]
 position_first u (v ∷ us) vs i = go (in_cases u v us i) (position_first u us vs)
   where
     go : (u ≡ v) ⊎ ((u ≡ v → ⊥) × In u us) → (In u us → position u (us ++ vs) ≡ position u us)
@@ -74,21 +77,25 @@ once_right [] vs o = o
 once_right (u ∷ us) vs o = once_right us vs o.1
 
 pub once_apart : (us vs : List ℕ) → Once (us ++ vs) → (u : ℕ) → In u us → In u vs → ⊥
+once_apart [] vs o u x3 j = elim x3 [ ]
 once_apart (v ∷ us) vs o u (inl e) j = o.0 (in_append_right v us vs (subst (λ (a : ℕ). In a vs) e j))
 once_apart (v ∷ us) vs o u (inr i) j = once_apart us vs o.1 u i j
 
 module _ {A B : Type 0} (f : A → B) where
   pub in_map : (a : A) (as' : List A) → In a as' → In (f a) (map f as')
+  in_map a [] x' = elim x' [ ]
   in_map a (x ∷ as') (inl e) = inl (ap f e)
   in_map a (x ∷ as') (inr i) = inr (in_map a as' i)
 
   pub map_at : (b : B) (as' : List A) → In b (map f as') → (a : A) × In a as' × (b ≡ f a)
+  map_at b [] x' = elim x' [ ]
   map_at b (x ∷ as') (inl e) = (x, inl refl, e)
   map_at b (x ∷ as') (inr i) = let found = map_at b as' i in (found.0, inr found.1, found.2)
 
 module _ {A : Type 0} (f : A → ℕ) where
   -- of those that stand for numbers of which none stands twice, one stands for each
   pub once_one : (as' : List A) → Once (map f as') → (a b : A) → In a as' → In b as' → f a ≡ f b → a ≡ b
+  once_one [] o a b x4 _ same = elim x4 [ ]
   once_one (x ∷ as') o a b (inl e) (inl e') same = e ∙ sym e'
   once_one (x ∷ as') o a b (inl e) (inr j) same =
       absurd (o.0 (subst (λ (u : ℕ). In u (map f as')) (sym same ∙ ap f e) (in_map f b as' j)))
@@ -104,6 +111,7 @@ Stand v x i (u ∷ us) = (v u ≡ x i) × Stand v x (suc i) us
 
 module _ (v x : Values) where
   pub stand_at : (i : ℕ) (us : List ℕ) → Stand v x i us → (u : ℕ) → In u us → v u ≡ x (i + position u us)
+  stand_at i [] h u j = elim j [ ]
   stand_at i (a ∷ us) h u j = go (in_cases u a us j) (stand_at (suc i) us h.1 u)
     where
       go : (u ≡ a) ⊎ ((u ≡ a → ⊥) × In u us) → (In u us → v u ≡ x (suc i + position u us)) → v u ≡ x (i + position u (a ∷ us))

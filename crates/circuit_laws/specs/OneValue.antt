@@ -28,6 +28,7 @@ value_same v w l e = ap (λ (b : Bool). cond (negated l) (not b) b) e
 -- gates by members
 pub gates_at : (v : Values) (gs : List Gate) → GatesAre v gs → (g : Gate) → In g gs
     → v (var g.lit) ≡ (value v g.left && value v g.right)
+gates_at v [] are g x'' = elim x'' [ ]
 gates_at v (h ∷ gs) are g (inl e) =
     ap (λ (a : Gate). v (var a.lit)) e ∙ are.0
     ∙ sym (ap (λ (a : Gate). value v a.left && value v a.right) e)

@@ -190,6 +190,7 @@ or_else_none (some at) b e = let z : ◌≡◌ {A = ℕ} 0 1 = cc in absurd (ome
 
 first_not_none : (test : Line → Bool) (ls : List Line) → first_not test ls ≡ none → (l : Line) → In l ls → test l ≡ true
 unfolding first_not fault_unless
+first_not_none test [] e l i = elim i [ ]
 first_not_none test (k ∷ ls) e l i = go (test k) refl e i (first_not_none test ls)
   where
     go : (b : Bool) → test k ≡ b → fault_unless b k.at (first_not test ls) ≡ none → In l (k ∷ ls)

@@ -121,6 +121,7 @@ module _ {A : Type 0} where
   -- where as many pass as there are, each passes
   all_pass : (test : A → Bool) (as' : List A) → length as' ≤ size (map test as') → (a : A) → In a as' → test a ≡ true
   unfolding size
+  all_pass test [] full a i = elim i [ ]
   all_pass test (x ∷ as') full a i = go (test x) refl full i (all_pass test as')
     where
       go : (b : Bool) → test x ≡ b → suc (length as') ≤ size (b ∷ map test as') → In a (x ∷ as')

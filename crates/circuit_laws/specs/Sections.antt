@@ -162,6 +162,7 @@ once_more (v ∷ us) u o f = (λ i. go (in_append_cases v us (u ∷ []) i), once
   where
     go : In v us ⊎ In v (u ∷ []) → ⊥
     go (inl i) = o.0 i
+    go (inr (inr x4)) = elim x4 [ ]
     go (inr (inl e)) = f (inl (sym e))
 
 pub defined_once : (before : List ℕ) (ls : List Line) → Once before → DefinedFrom before ls → Once (before ++ defined_in ls)
@@ -173,6 +174,7 @@ defined_once before (l ∷ ls) o h =
 
 pub defined_at : (before : List ℕ) (ls : List Line) → DefinedFrom before ls → (l : Line) → In l ls
     → (negated (at_number 0 l) ≡ false) × (var (at_number 0 l) ≡ 0 → ⊥)
+defined_at before [] h l x'' = elim x'' [ ]
 defined_at before (k ∷ ls) h l (inl e) = (
   ap (λ (a : Line). negated (at_number 0 a)) e ∙ h.0,
   λ z. h.1 (sym (ap (λ (a : Line). var (at_number 0 a)) e) ∙ z),

@@ -1,1 +1,2 @@
 // Theorems about circuits alone: see specs/.
+#![tactic(auto)]

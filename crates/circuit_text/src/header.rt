@@ -9,7 +9,7 @@ use lines::number::Number;
 use sections::nth::nth;
 
 // Whether the header is right; if so, where the next line starts, whether it is of edition 1.9, and its numbers: 0 for each that is left out.
-#[derive(Drop)]
+#[derive(Clone, Copy)]
 pub struct Header {
     pub right: bool,
     pub next: usize,

@@ -81,7 +81,7 @@ fn total(text: &[u8], counts: Lines) -> usize
 }
 
 // What reading them comes to: the place of the first line at fault, or where they stand and where the next line starts.
-#[derive(Drop)]
+#[derive(Clone, Copy)]
 pub enum Between {
     Fault(usize),
     Lines(Properties, usize),

@@ -18,7 +18,7 @@ use symbols::{Counts, symbols_fault};
 use uses::stuck::uses_fault;
 
 // What reading comes to: the place of the first line at fault, or the circuit where it stands.
-#[derive(Drop)]
+#[derive(Clone, Copy)]
 pub enum Found {
     Fault(usize),
     Whole(Circuit),

@@ -3,7 +3,7 @@ ghost use Rattle.std.specs.Prelude.{◌≡◌, ◌+◌, eqb};
 ghost use Rattle.circuits.specs.Limits.{over_counts};
 
 // What is counted in two texts: their bytes, the lines of a circuit, its lemmas, and the literals of the longest of them.
-#[derive(Drop)]
+#[derive(Clone, Copy)]
 pub struct Counted {
     pub text: usize,
     pub lemma_text: usize,

@@ -13,7 +13,7 @@ use lemma_text::read_lemmas;
 use sections::circuit::{Circuit, Properties};
 
 // What both texts come to: a refusal with its number and place, or a circuit whose problem is within the limits.
-#[derive(Drop)]
+#[derive(Clone, Copy)]
 pub enum Texts {
     Refused(u32, usize),
     Within(Circuit),
@@ -80,7 +80,7 @@ fn read_texts(text: &[u8], lemmas: &[u8]) -> Texts
 }
 
 // What is written: nothing, with a refusal's number and place; or so many bytes of a problem file.
-#[derive(Drop)]
+#[derive(Clone, Copy)]
 pub enum Filed {
     Refused(u32, usize),
     Written(usize),

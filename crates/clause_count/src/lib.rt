@@ -1,5 +1,7 @@
 // How many clauses the problem that is built from a circuit has: counted line by line, less those that a constant true drops, with nothing
 // written. And what both that count and the writing of the clauses ask of a circuit's lines: where a latch starts, and the bad literal.
+#![tactic(auto)]
+
 ghost use Rattle.std.specs.Prelude.{◌≡◌, [], ◌≤◌, length};
 ghost use Rattle.meaning.specs.Built.{built};
 ghost use Rattle.meaning.specs.Circuits.{clause_count};

@@ -4,14 +4,14 @@ ghost use Rattle.meaning.specs.File.{two_at};
 ghost use Rattle.faults.specs.Places.{around, start_around, kind_there};
 
 // Where a record starts, and its position among the records of its kind.
-#[derive(Drop)]
+#[derive(Clone, Copy)]
 pub struct Spot {
     pub at: usize,
     pub position: usize,
 }
 
 // A record's kind, and its position among the records of that kind.
-#[derive(Drop)]
+#[derive(Clone, Copy)]
 pub struct Found {
     pub kind: usize,
     pub position: usize,

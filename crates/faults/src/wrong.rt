@@ -9,7 +9,7 @@ use crate::places::{around, left_from, word_at, word_on};
 use format::{Class, Problem, Row};
 
 // What is wrong, with the numbers that tell it.
-#[derive(Drop)]
+#[derive(Clone, Copy)]
 pub enum Fault {
     TooLong,
     HeadCut(usize),

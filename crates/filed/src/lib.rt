@@ -1,1 +1,2 @@
 // Theorems about a problem written as a file: see specs/.
+#![tactic(auto)]

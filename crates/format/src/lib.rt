@@ -1,12 +1,14 @@
 // The problem file's leaves: the limits, what each kind may hold, two bytes and a literal read in place. Nothing is copied: a clause is a
 // span of the file's bytes.
+#![tactic(auto)]
+
 ghost use Rattle.std.specs.Prelude.{◌≡◌, ◌+◌, ◌<◌, ◌≤◌, length};
 ghost use Rattle.meaning.specs.File.{two_at, literal_at, kind_row};
 ghost use Rattle.format.specs.Forms.{literal_of, kind_of, signed_number, signed_literal};
 
 // A problem as it stands in its file: n state variables, m inputs and helpers, k lemmas; and for each of the four kinds of clauses where its
 // first record starts and how many records it has.
-#[derive(Drop)]
+#[derive(Clone, Copy)]
 pub struct Problem {
     pub n: usize,
     pub m: usize,
@@ -34,7 +36,7 @@ impl Problem {
 }
 
 // Which variables a body may name: none, those of the state, those of the present moment (all but next values), or every one.
-#[derive(Drop)]
+#[derive(Clone, Copy)]
 pub enum Class {
     Nothing,
     State,
@@ -43,7 +45,7 @@ pub enum Class {
 }
 
 // What a kind may hold: shortest and longest body, whether its length is even, its variables, and how many records of it there may be.
-#[derive(Drop)]
+#[derive(Clone, Copy)]
 pub struct Row {
     pub shortest: usize,
     pub longest: usize,
@@ -115,7 +117,7 @@ impl Row {
 }
 
 // A literal: a variable, or its negation.
-#[derive(Drop)]
+#[derive(Clone, Copy)]
 pub enum Literal {
     Pos(usize),
     Neg(usize),

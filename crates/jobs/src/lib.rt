@@ -1,4 +1,6 @@
 // The public jobs over the questions of `search`: mark the largest inductive subset, mark one minimal safe inductive subset, list all of them.
+#![tactic(auto)]
+
 mod listing;
 mod marks;
 

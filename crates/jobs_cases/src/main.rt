@@ -1,5 +1,7 @@
 // Bench cases K, L and M run through the jobs. A line has the case and the job, then the number, the place, the decisions and the rows of its
 // report, and the bytes lent, which held 7 before.
+#![tactic(auto)]
+
 use libc::STDOUT_FILENO;
 use problem::Report;
 

@@ -68,6 +68,7 @@ false_of_not false h = refl
 
 module _ {A : Type 0} where
   pub in_append_left : (a : A) (xs ys : List A) → In a xs → In a (xs ++ ys)
+  in_append_left a [] ys x' = elim x' [ ]
   in_append_left a (x ∷ xs) ys (inl e) = inl e
   in_append_left a (x ∷ xs) ys (inr h) = inr (in_append_left a xs ys h)
 
@@ -96,6 +97,7 @@ module _ {A : Type 0} where
 
   pub all_at : (test : A → Bool) (a : A) (xs : List A) → all test xs ≡ true → In a xs → test a ≡ true
   unfolding all
+  all_at test a [] h x'' = elim x'' [ ]
   all_at test a (x ∷ xs) h (inl e) = ap test e ∙ and_left (test x) (all test xs) h
   all_at test a (x ∷ xs) h (inr g) = all_at test a xs (and_right (test x) (all test xs) h) g
 
@@ -107,6 +109,7 @@ module _ {A : Type 0} where
 
   pub any_of : (test : A → Bool) (a : A) (xs : List A) → In a xs → test a ≡ true → any test xs ≡ true
   unfolding any
+  any_of test a [] x'' h = elim x'' [ ]
   any_of test a (x ∷ xs) (inl e) h = or_left (test x) (any test xs) (sym (ap test e) ∙ h)
   any_of test a (x ∷ xs) (inr g) h = or_right (test x) (any test xs) (any_of test a xs g h)
 

@@ -10,6 +10,9 @@ use Rattle.laws.specs.Range.{clause_at, clauses_of}
 
 in_marks : (c : Clause) (S : Marks) (cs : List Clause) → In c (at_marks S cs) → In c cs
 unfolding at_marks
+in_marks c [] cs i = elim i [ ]
+in_marks c (false ∷ S) [] i = elim i [ ]
+in_marks c (true ∷ S) [] i = elim i [ ]
 in_marks c (true ∷ S) (d ∷ cs) (inl e) = inl e
 in_marks c (true ∷ S) (d ∷ cs) (inr i) = inr (in_marks c S cs i)
 in_marks c (false ∷ S) (d ∷ cs) i = inr (in_marks c S cs i)

@@ -51,6 +51,7 @@ first_at find (c ∷ cs) l h = go (find c) refl h (first_at find cs l)
 
 pub first_none : (find : Clause → Option Literal) (c : Clause) (cs : List Clause) → first_of find cs ≡ none → In c cs → find c ≡ none
 unfolding first_of or_else
+first_none find c [] h i = elim i [ ]
 first_none find c (d ∷ cs) h i = go (find d) refl h i (first_none find c cs)
   where
     go : (o : Option Literal) → find d ≡ o → or_else o (first_of find cs) ≡ none → In c (d ∷ cs)
@@ -63,6 +64,7 @@ first_none find c (d ∷ cs) h i = go (find d) refl h i (first_none find c cs)
 
 pub place_unset : (v : Setting) (c : Clause) (l : Literal) → In l (unset_places v c) → In l c × (value v l ≡ none)
 unfolding unset_places keep_unset
+place_unset v [] l i = elim i [ ]
 place_unset v (k ∷ c) l i = go (value v k) refl i (place_unset v c l)
   where
     Unset : Clause → Type 0
@@ -79,6 +81,7 @@ place_unset v (k ∷ c) l i = go (value v k) refl i (place_unset v c l)
 
 pub unset_place : (v : Setting) (c : Clause) (l : Literal) → In l c → value v l ≡ none → In l (unset_places v c)
 unfolding unset_places keep_unset
+unset_place v [] l i h = elim i [ ]
 unset_place v (k ∷ c) l i h = go (value v k) refl i (λ j. unset_place v c l j h)
   where
     go : (o : Option Bool) → value v k ≡ o → In l (k ∷ c) → (In l c → In l (unset_places v c))
@@ -138,6 +141,7 @@ pub forced_only : (v : Setting) (c : Clause) (l k : Literal) → forced_by v c �
 forced_only v c l k h i = go (false_or_unset v c k (forced_clause v c l h).0 i)
   where
     single : In k (l ∷ []) → k ≡ l
+    single (inr x') = elim x' [ ]
     single (inl e) = e
 
     go : (value v k ≡ some false) ⊎ (value v k ≡ none) → (value v k ≡ some false) ⊎ (k ≡ l)

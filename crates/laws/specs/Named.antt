@@ -58,6 +58,7 @@ rest_within file w n m ss on (inr more) = on more.1
 
 chain_within : (file : List ℕ) (w : Reader) (n m : ℕ) (ss : List Span) → (w.before ≡ 0 → ⊥) → w.n ≡ n → w.m ≡ m → Chain file w ss
     → SpansWithin n m file ss
+chain_within file w n m [] nonzero en em c = elim c [ ]
 chain_within file w n m (s ∷ ss) nonzero en em c =
     let k = kept file w c.0 in
     let same = past_counts file w ((kind_kept w.before (kind_at file w) k.kind).not_again nonzero) in (
@@ -86,6 +87,7 @@ first_within file n m e =
 
 pub spans_within : (file : List ℕ) (ss : List Span) → Chain file at_start ss → SpansWithin (two_at file 4) (two_at file 6) file ss
 unfolding at_start
+spans_within file [] c = elim c [ ]
 spans_within file (s ∷ ss) c =
     let k = kept file at_start c.0 in
     let one = (kind_kept 0 (kind_at file at_start) k.kind).first refl in

@@ -2,7 +2,7 @@
 use Rattle.std.specs.Prelude.{ℕ, zero, suc, ◌+◌, ◌≤◌, ◌≡◌, refl, ◌↔◌, Bool, true, false, List, [], ◌∷◌, ◌++◌, map, get_or}
 use Rattle.std.proofs.Common.{arith, sym, ap, ◌∙◌}
 use Rattle.std.proofs.Math.Path.{fun_ext}
-use Rattle.std.proofs.Math.Logic.{Iff·trans}
+use Rattle.std.proofs.Math.Logic.Iff as Iff
 use Rattle.meaning.specs.Clauses.{Literal, pos, neg, Clause, variable, Values, all, holds, all_hold}
 use Rattle.meaning.specs.Meaning.{Problem, State, moment, InitState, Step, Marks, at_marks, lemmas_of, AllOf, BadState, Safe, Part}
 use Rattle.meaning.specs.Rules.{Question, initiation, step, safety, denied, next, lemma, clauses, width, asked}
@@ -98,7 +98,7 @@ true_unless false f = absurd (f refl)
 pub initiation_means : (p : Problem) → WellFormed p → (S : Marks) (d : ℕ)
     → ((asked p S (initiation d)).sat ≡ false) ↔ ((s : State) → InitState p s → holds s (lemma p d) ≡ true)
 unfolding clauses
-initiation_means p f S d = Iff·trans (asked_no p f S (initiation d)) (forth, back)
+initiation_means p f S d = Iff.trans (asked_no p f S (initiation d)) (forth, back)
   where
     c : Clause
     c = lemma p d
@@ -119,7 +119,7 @@ initiation_any p S T d = refl
 pub step_means : (p : Problem) → WellFormed p → (S : Marks) (d : ℕ)
     → ((asked p S (step d)).sat ≡ false) ↔ ((s t : State) → Step p s t → AllOf p S s → holds t (lemma p d) ≡ true)
 unfolding clauses lemmas_of
-step_means p f S d = Iff·trans (asked_no p f S (step d)) (forth, back)
+step_means p f S d = Iff.trans (asked_no p f S (step d)) (forth, back)
   where
     c : Clause
     c = lemma p d
@@ -167,7 +167,7 @@ step_means p f S d = Iff·trans (asked_no p f S (step d)) (forth, back)
 
 pub safety_means : (p : Problem) → WellFormed p → (S : Marks) → ((asked p S safety).sat ≡ false) ↔ Safe p S
 unfolding clauses lemmas_of
-safety_means p f S = Iff·trans (asked_no p f S safety) (forth, back)
+safety_means p f S = Iff.trans (asked_no p f S safety) (forth, back)
   where
     set : List Clause
     set = at_marks S p.lemmas

@@ -8,10 +8,12 @@ use Rattle.laws.specs.Within.{ClauseOf, ClausesOf, UpTo, ClauseWithin, Within, P
 
 module _ (P : ℕ → Type 0) where
   pub literal_at : (l : Literal) (c : Clause) → ClauseOf P c → In l c → P (variable l)
+  literal_at l [] h x'' = elim x'' [ ]
   literal_at l (k ∷ c) h (inl e) = subst (λ (m : Literal). P (variable m)) (sym e) h.0
   literal_at l (k ∷ c) h (inr g) = literal_at l c h.1 g
 
   pub clause_at : (c : Clause) (cs : List Clause) → ClausesOf P cs → In c cs → ClauseOf P c
+  clause_at c [] h x'' = elim x'' [ ]
   clause_at c (d ∷ cs) h (inl e) = subst (λ (k : Clause). ClauseOf P k) (sym e) h.0
   clause_at c (d ∷ cs) h (inr g) = clause_at c cs h.1 g
 

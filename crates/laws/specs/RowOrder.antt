@@ -48,6 +48,7 @@ not_both_before S T h g =
 -- lists of sets
 
 before_all_at : (S T : Marks) (l : List Marks) → BeforeAll S l → In T l → Before S T
+before_all_at S T [] h x'' = elim x'' [ ]
 before_all_at S T (U ∷ l) h (inl e) = subst (λ (X : Marks). Before S X) (sym e) h.0
 before_all_at S T (U ∷ l) h (inr g) = before_all_at S T l h.1 g
 

@@ -156,6 +156,7 @@ lists_the_first_is_out d =
     not_there there
   where
     not_there : In (false ∷ true ∷ true ∷ []) ((true ∷ false ∷ false ∷ []) ∷ []) → ⊥
+    not_there (inr x') = elim x' [ ]
     not_there (inl e) = true≢false (ap (λ (S : Marks). get_or S 1 true) e)
 
 -- one that invents its decisions: shut out by the counting rules, which demand 1 holds every call to

@@ -86,6 +86,10 @@ Same lost r = Unit {0}
 
 same_after : (d : ℕ) (r s : Ending) → Same r s → Same (after d r) (after d s)
 unfolding after
+same_after d (can v e) (cannot f) h = elim h [ ]
+same_after d (can v e) lost h = elim h [ ]
+same_after d (cannot e) (can u f) h = elim h [ ]
+same_after d (cannot e) lost h = elim h [ ]
 same_after d (can v e) (can u f) h = cc
 same_after d (cannot e) (cannot f) h = cc
 same_after d lost s h = tt
@@ -94,6 +98,10 @@ same_then : (again on : Setting → Ending) (v u : Setting) (l : Literal) (r s :
     → Same (again (with_literal v (negation l))) (on (with_literal u (negation l)))
     → Same (then_false again v l r) (then_false on u l s)
 unfolding then_false
+same_then again on v u l (can w d) (cannot e) h g = elim h [ ]
+same_then again on v u l (can w d) lost h g = elim h [ ]
+same_then again on v u l (cannot d) (can x e) h g = elim h [ ]
+same_then again on v u l (cannot d) lost h g = elim h [ ]
 same_then again on v u l (can w d) (can x e) h g = cc
 same_then again on v u l (cannot d) (cannot e) h g =
     subst (λ (n : ℕ). Same (after (2 + d) (again (with_literal v (negation l)))) (after (2 + n) (on (with_literal u (negation l))))) h
@@ -134,6 +142,10 @@ module _ (most : ℕ) (cs : List Clause) (within : Within most cs) where
 
 same_answer : (r s : Ending) → Same r s → (r ≡ lost → ⊥) → answer r ≡ answer s
 unfolding answer
+same_answer (can v d) (cannot e) h f = elim h [ ]
+same_answer (can v d) lost h f = elim h [ ]
+same_answer (cannot d) (can u e) h f = elim h [ ]
+same_answer (cannot d) lost h f = elim h [ ]
 same_answer (can v d) (can u e) h f = cc
 same_answer (cannot d) (cannot e) h f = cc
 same_answer lost s h f = absurd (f refl)

@@ -1,5 +1,7 @@
 // The lemma text, read line by line in place: the place of its first fault, or how many lemmas it has and how long the longest is; and its
 // lemmas written as records.
+#![tactic(auto)]
+
 ghost use Rattle.std.specs.Prelude.{◌≡◌, ◌+◌, ◌<◌, ◌≤◌, max, false, length};
 ghost use Rattle.meaning.specs.LemmaText.{wrong, read_lemma_text};
 ghost use Rattle.lemma_text.specs.Rest.{summary_of, lemmas_of};
@@ -14,7 +16,7 @@ use literals::put_literals;
 use records::put_head;
 
 // The place of the first line at fault; or how many lemmas there are, and the most literals that one of them has.
-#[derive(Drop)]
+#[derive(Clone, Copy)]
 pub struct Lemmas {
     pub fault: bool,
     pub at: usize,

@@ -7,7 +7,7 @@ ghost use Rattle.lemma_text.specs.Line.{line_from, no_line};
 use lines::number::{Number, number_at};
 
 // Where the line after a lemma starts, and how many literals the lemma has; 0 and 0 where the line is no lemma.
-#[derive(Drop)]
+#[derive(Clone, Copy)]
 pub struct Line {
     pub past: usize,
     pub count: usize,

@@ -3,7 +3,7 @@ ghost use Rattle.std.specs.Prelude.{◌≡◌, ◌<◌, ◌≤◌, length, drop}
 ghost use Rattle.lines.specs.Numbers.{digit_at, grown, Stands, span, digits_of};
 
 // The place of its digits, and its value; HUGE stands for every value from there on.
-#[derive(Drop)]
+#[derive(Clone, Copy)]
 pub struct Number {
     pub start: usize,
     pub end: usize,

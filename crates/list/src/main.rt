@@ -1,4 +1,6 @@
 // The listing program: reads a problem file on standard input and prints its listing.
+#![tactic(auto)]
+
 ghost use Rattle.text.specs.Page.{Holds};
 ghost use Rattle.text.specs.Listing.{program_text};
 

@@ -1,5 +1,7 @@
 // The reader of a problem file, and the checking job: one pass, record by record, with nothing copied. A refusal has its number and its
 // place; an accepted problem has the places of its four sections.
+#![tactic(auto)]
+
 use format::Problem;
 
 mod rules;
@@ -13,7 +15,7 @@ ghost use Rattle.problem.specs.Answers.{reading_of_answer, PlacedIf, report_of};
 use rules::Step;
 
 // What reading a file answers: an accepted problem, or a refusal with its number and place.
-#[derive(Drop)]
+#[derive(Clone, Copy)]
 pub enum Checked {
     Accepted(Problem),
     Refused(u32, usize),
@@ -49,7 +51,7 @@ pub fn read_problem(file: &[u8]) -> Checked
 }
 
 // What every job returns; what is not given for an answer is 0. Number 0: answered, with no refusal.
-#[derive(Drop)]
+#[derive(Clone, Copy)]
 pub struct Report {
     pub number: u32,
     pub place: usize,

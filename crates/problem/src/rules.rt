@@ -9,7 +9,7 @@ use format::{Class, Literal, Problem, Row};
 
 // What is known where a record must start: its place, the kind before it (0: there is none) and how many of that kind there were, the
 // clause records so far (kinds 2 to 5 together), and n and m.
-#[derive(Drop)]
+#[derive(Clone, Copy)]
 pub struct Cursor {
     pub at: usize,
     pub before: usize,
@@ -33,7 +33,7 @@ pub fn at_start() -> Cursor
 }
 
 // What a record comes to: a refusal's number and place, or what is known after it.
-#[derive(Drop)]
+#[derive(Clone, Copy)]
 pub enum Step {
     Stop(u32, usize),
     Past(Cursor),
@@ -135,7 +135,7 @@ fn between(low: usize, high: usize, v: usize) -> bool
 
 // Whether a class names a variable.
 fn names(class: Class, n: usize, m: usize, v: usize) -> bool
-    requires* { do ⌜ (n ≤ (← ⟦Problem::N_MOST⟧)) × (m ≤ (← ⟦Problem::M_MOST⟧)) ⌝ }
+    requires { (n ≤ Problem.N_MOST) × (m ≤ Problem.M_MOST) }
     ensures { result ≡ names (class_of class) n m v }
 {
     match class {
@@ -165,7 +165,7 @@ fn literal_count(class: Class, len: usize) -> usize
 
 // A literal that names none of the variables of its class.
 fn offends(class: Class, n: usize, m: usize, l: Literal) -> bool
-    requires* { do ⌜ (n ≤ (← ⟦Problem::N_MOST⟧)) × (m ≤ (← ⟦Problem::M_MOST⟧)) ⌝ }
+    requires { (n ≤ Problem.N_MOST) × (m ≤ Problem.M_MOST) }
     ensures { result ≡ offends (names (class_of class) n m) (literal_of l) }
 {
     match l {
@@ -177,7 +177,7 @@ fn offends(class: Class, n: usize, m: usize, l: Literal) -> bool
 // 6: how many literals stand before the first that offends.
 fn before_offence(file: &[u8], at: usize, count: usize, class: Class, n: usize, m: usize) -> usize
     requires count_in_bounds { at + 2 * count ≤ length file.now }
-    requires* fact { do ⌜ (n ≤ (← ⟦Problem::N_MOST⟧)) × (m ≤ (← ⟦Problem::M_MOST⟧)) ⌝ }
+    requires counts_in_range { (n ≤ Problem.N_MOST) × (m ≤ Problem.M_MOST) }
     ensures { result ≡ before_offence (names (class_of class) n m) (literals file.now at count) }
 {
     let mut i = 0;
@@ -257,7 +257,7 @@ fn body_of(file: &[u8], w: Cursor, len: usize, kind: usize) -> Step
 
 // One record: 2 (head), 3, 4, 2 (body), then the rules of its body.
 pub fn record_at(file: &[u8], w: Cursor) -> Step
-    requires* file_bound { do ⌜ length file.now ≤ (← ⟦Problem::FILE_MOST⟧) ⌝ }
+    requires file_bound { length file.now ≤ Problem.FILE_MOST }
     requires sane { Sane file.now (reader_of w) }
     ensures { Stepped file.now (reader_of w) (record_rules file.now (reader_of w)) result }
 {

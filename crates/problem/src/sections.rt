@@ -5,7 +5,7 @@ ghost use Rattle.problem.specs.Records.{section_past, sections_past, no_sections
 use format::Problem;
 
 // The records of a kind: where the first starts, and how many they are.
-#[derive(Drop)]
+#[derive(Clone, Copy)]
 pub struct Section {
     pub at: usize,
     pub count: usize,
@@ -14,7 +14,7 @@ pub struct Section {
 impl Section {
     // After a record of a kind that ends before `next`: one more of its own kind; of a later kind none yet, from `next` on.
     fn past(self, own: usize, kind: usize, next: usize) -> Section
-        requires* { do ⌜ self.count ≤ (← ⟦Problem::CLAUSES_MOST⟧) ⌝ }
+        requires { self.count ≤ Problem.CLAUSES_MOST }
         ensures { result ≡ section_past own kind next self }
     {
         if kind < own {
@@ -31,7 +31,7 @@ impl Section {
 }
 
 // The four kinds of clauses.
-#[derive(Drop)]
+#[derive(Clone, Copy)]
 pub struct Sections {
     pub init: Section,
     pub tr: Section,

@@ -1,5 +1,7 @@
 // The bench cases of a problem file that are run and compared: L whole, cut and longer, and both sides of each of M's limits, with that of
 // 4,096 clauses beside them. A line has the case's name, then the number, the place, n, m and k of the checking job's report.
+#![tactic(auto)]
+
 ghost use Rattle.std.specs.Prelude.{◌≤◌};
 
 use libc::STDOUT_FILENO;

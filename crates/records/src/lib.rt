@@ -1,4 +1,6 @@
 // Records of a problem file, written into bytes that the caller lends: two-byte numbers, a record's head, and literals.
+#![tactic(auto)]
+
 ghost use Rattle.std.specs.Prelude.{◌≡◌, ◌+◌, ◌<◌, ◌≤◌, ◌++◌, length};
 ghost use Rattle.meaning.specs.Built.{literal_if};
 ghost use Rattle.meaning.specs.Filed.{two, literal_bytes};

@@ -11,7 +11,7 @@ use search::{Found, Marks};
 use sets::questions::{Each, first_yes};
 
 // Where a listing stands: going on, with the rows and the decisions so far; ended by the budget; or by a row that doesn't fit.
-#[derive(Drop)]
+#[derive(Clone, Copy)]
 pub enum Progress {
     Going(usize, u64),
     Spent(usize),

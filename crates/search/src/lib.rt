@@ -1,5 +1,7 @@
 // The questions of a problem file, asked: partial settings, where a question's clauses stand in the file, and the search with its count of
 // decisions. `ask` is the one way in.
+#![tactic(auto)]
+
 use engine::decide;
 use format::{Literal, Problem};
 use places::parts_of;
@@ -14,19 +16,19 @@ ghost use Rattle.format.specs.Section.{Placed, problem_at};
 ghost use Rattle.search.specs.Forms.{marks_at, question_of, Among, bounded};
 
 // A partial setting, by variable number (0 stands idle): 0 unset, 1 true, 2 false.
-#[derive(Drop)]
+#[derive(Clone, Copy)]
 pub struct Setting {
     pub values: [u8; 513],
 }
 
 // A set of positions.
-#[derive(Drop)]
+#[derive(Clone, Copy)]
 pub struct Marks {
     pub on: [bool; 128],
 }
 
 // Three kinds of question: of a set, the initiation of a position, the step of a position, and the safety.
-#[derive(Drop)]
+#[derive(Clone, Copy)]
 pub enum Question {
     Initiation(usize),
     Step(usize),
@@ -34,7 +36,7 @@ pub enum Question {
 }
 
 // Satisfiable or unsatisfiable, with the decisions used, or a decision was wanted when the budget was used up.
-#[derive(Drop)]
+#[derive(Clone, Copy)]
 pub enum Found {
     Yes(u64),
     No(u64),
@@ -43,7 +45,7 @@ pub enum Found {
 
 // What a pass over clauses has found: every one has a true literal; a literal to try; literals that were forced, and are set; a clause with only
 // false ones.
-#[derive(Drop)]
+#[derive(Clone, Copy)]
 enum Next {
     Satisfied,
     Try(Literal),
@@ -53,7 +55,7 @@ enum Next {
 
 // Where the clauses of a question stand in the file, in the question's order: records, the lemmas that are marked, records again, and the literals
 // that are denied, each with a number added to its variable.
-#[derive(Drop)]
+#[derive(Clone, Copy)]
 struct Parts {
     first_at: usize,
     first_count: usize,

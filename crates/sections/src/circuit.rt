@@ -2,7 +2,7 @@
 use crate::find::Lines;
 
 // The lines between latches and gates: outputs, bad literals, constraints, the counts of the justice properties, their literals, fairness.
-#[derive(Drop)]
+#[derive(Clone, Copy)]
 pub struct Properties {
     pub outputs: Lines,
     pub bads: Lines,
@@ -13,7 +13,7 @@ pub struct Properties {
 }
 
 // The lines of its inputs, latches and gates, and what stands between.
-#[derive(Drop)]
+#[derive(Clone, Copy)]
 pub struct Circuit {
     pub inputs: Lines,
     pub latches: Lines,

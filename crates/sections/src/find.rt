@@ -11,7 +11,7 @@ use lines::literal::same_variable;
 use lines::number::{Number, number_at};
 
 // Some lines of a section: where the first starts, and how many they are.
-#[derive(Drop)]
+#[derive(Clone, Copy)]
 pub struct Lines {
     pub at: usize,
     pub count: usize,

@@ -20,7 +20,7 @@ use lines::number::{Number, number_at};
 
 // How many numbers a line has; whether the first defines a variable; whether a start value may follow them; whether it is a count and no
 // literal.
-#[derive(Drop)]
+#[derive(Clone, Copy)]
 pub struct Form {
     pub width: usize,
     pub defines: bool,
@@ -29,7 +29,7 @@ pub struct Form {
 }
 
 // The lines that define variables before a line: inputs, latches, and those of its own section.
-#[derive(Drop)]
+#[derive(Clone, Copy)]
 pub struct Before {
     pub inputs: Lines,
     pub latches: Lines,

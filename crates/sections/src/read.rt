@@ -11,7 +11,7 @@ use crate::line::{Before, Form, line_of};
 use lines::number::Number;
 
 // How a section ends: at fault, and where; or where the next line starts.
-#[derive(Drop)]
+#[derive(Clone, Copy)]
 pub struct Ended {
     pub fault: bool,
     pub at: usize,

@@ -14,7 +14,7 @@ use format::Problem;
 use search::{Found, Marks, Question};
 
 // A set with its safety asked: the set, the decisions used for both, whether it is safe, and whether the budget was used up.
-#[derive(Drop)]
+#[derive(Clone, Copy)]
 pub struct Judged {
     pub set: Marks,
     pub used: u64,

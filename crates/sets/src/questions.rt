@@ -13,7 +13,7 @@ use format::Problem;
 use search::{Found, Marks, Question};
 
 // What is asked of each position: its step, or whether the set without it leads to a smaller one that is safe.
-#[derive(Drop)]
+#[derive(Clone, Copy)]
 pub enum Each {
     Step,
     Smaller,

@@ -10,14 +10,14 @@ use format::Problem;
 use search::{Found, Marks, Question};
 
 // What a sifting asks of each position: its initiation, or its step.
-#[derive(Drop)]
+#[derive(Clone, Copy)]
 pub enum Way {
     First,
     Round,
 }
 
 // A set being sifted: what stayed, the decisions used, whether some fell, and whether the budget was used up.
-#[derive(Drop)]
+#[derive(Clone, Copy)]
 pub struct Sifted {
     pub set: Marks,
     pub used: u64,
@@ -26,7 +26,7 @@ pub struct Sifted {
 }
 
 // A set that was kept, the decisions used, and whether the budget was used up.
-#[derive(Drop)]
+#[derive(Clone, Copy)]
 pub struct Kept {
     pub set: Marks,
     pub used: u64,

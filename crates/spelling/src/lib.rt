@@ -1,4 +1,6 @@
 // One word by itself: what it is as a number, and whether two words are the same.
+#![tactic(auto)]
+
 mod compare;
 mod number;
 

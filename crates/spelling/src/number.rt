@@ -3,7 +3,7 @@ ghost use Rattle.std.specs.Prelude.{◌≡◌, ◌-◌, ◌<◌};
 ghost use Rattle.spelling.specs.Numbers.{is_digit, all_digits, is_number, value, up_to, number_of};
 
 // What a word is as a number: its value, over the largest that is allowed, or no number.
-#[derive(Drop)]
+#[derive(Clone, Copy)]
 pub enum Number {
     Value(u32),
     Over,

@@ -1,5 +1,7 @@
 // Symbol lines of a circuit text, and the comment: the first line at fault. One pass, line by line, with nothing copied; a position that is
 // named twice is found by walking the earlier lines.
+#![tactic(auto)]
+
 pub mod line;
 pub mod symbol;
 
@@ -11,14 +13,14 @@ use line::{begins_comment, line_end};
 use symbol::line_right;
 
 // The place of the first line at fault, if one is found.
-#[derive(Drop)]
+#[derive(Clone, Copy)]
 pub struct Fault {
     pub found: bool,
     pub at: usize,
 }
 
 // How many there are to name: inputs, latches, outputs, bad literals, constraints, justice properties and fairness constraints.
-#[derive(Drop)]
+#[derive(Clone, Copy)]
 pub struct Counts {
     pub i: usize,
     pub l: usize,

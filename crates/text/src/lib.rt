@@ -1,4 +1,6 @@
 // Texts made of a job's answer, on a page that the caller lends.
+#![tactic(auto)]
+
 mod filled;
 mod listing;
 mod page;

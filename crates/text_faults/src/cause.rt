@@ -15,7 +15,7 @@ use sections::nth::nth;
 use symbols::line::line_end;
 
 // What is wrong. Numbers of a line are counted from 1.
-#[derive(Drop)]
+#[derive(Clone, Copy)]
 pub enum Cause {
     Missing, // the text ends before it
     Open, // no newline ends it

@@ -17,7 +17,7 @@ use symbols::line::line_end;
 use symbols::symbol::named_right;
 
 // The kind of a line, and why it is refused.
-#[derive(Drop)]
+#[derive(Clone, Copy)]
 pub struct Fault {
     pub kind: Kind,
     pub cause: Cause,

@@ -10,7 +10,7 @@ use lines::literal::same_variable;
 use lines::number::{Number, number_at};
 
 // Where the lines of inputs (and after them of latches), of outputs and what follows them, of gates and of symbols start.
-#[derive(Drop)]
+#[derive(Clone, Copy)]
 pub struct Places {
     pub inputs: usize,
     pub outputs: usize,

@@ -5,7 +5,7 @@ ghost use Rattle.text_faults.specs.Kinds.{kind_of, property_kind, last_kind};
 use crate::sizes::Sizes;
 
 // A line of a circuit text; after the gates come the symbols.
-#[derive(Drop)]
+#[derive(Clone, Copy)]
 pub enum Kind {
     Header,
     Input,

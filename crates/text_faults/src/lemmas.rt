@@ -10,7 +10,7 @@ use lines::number::Number;
 use symbols::line::line_end;
 
 // What is wrong. Words of a line are counted from 1.
-#[derive(Drop)]
+#[derive(Clone, Copy)]
 pub enum Cause {
     Open, // no newline ends it
     Word(usize), // this word is no number, with or without a '-' before it

@@ -1,5 +1,7 @@
 // What is wrong with a circuit text or a lemma text at a place, in a word that a person can be told: which line stands there, and why it is
 // refused. Nothing is assumed of the text or of the place.
+#![tactic(auto)]
+
 pub mod cause; // why a line of a circuit text is refused
 pub mod circuit; // the line of a circuit text at a place
 pub mod definers; // which lines define a variable

@@ -10,7 +10,7 @@ use circuit_text::header::{Header, read_header};
 use symbols::line::line_end;
 
 // The limit, and what was met.
-#[derive(Drop)]
+#[derive(Clone, Copy)]
 pub enum Limit {
     LongCircuit, // the circuit has more than 65,536 bytes
     LongLemmas, // the lemmas have

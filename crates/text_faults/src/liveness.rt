@@ -5,7 +5,7 @@ ghost use Rattle.text_faults.specs.Liveness.{liveness_of};
 use circuit_text::header::read_header;
 
 // How many of each.
-#[derive(Drop)]
+#[derive(Clone, Copy)]
 pub struct Liveness {
     pub justice: usize,
     pub fairness: usize,

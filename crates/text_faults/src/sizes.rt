@@ -10,7 +10,7 @@ use circuit_text::header::Header;
 use lines::number::{Number, number_at};
 
 // The lines after the header, kind by kind in their order; numbers that no word holds count as one that it does.
-#[derive(Drop)]
+#[derive(Clone, Copy)]
 pub struct Sizes {
     pub inputs: usize,
     pub latches: usize,

@@ -8,7 +8,7 @@ use problem::Report;
 use text::{put_all, put_filled, put_row};
 
 // Which job was asked.
-#[derive(Drop)]
+#[derive(Clone, Copy)]
 pub enum Job {
     Check,
     Largest,

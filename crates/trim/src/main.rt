@@ -1,5 +1,7 @@
 // The program `trim`: it takes its words one after another, does the job that they order, and tells what came of it. Answers go to standard
 // output; refusals, and what is wrong with the words, to standard error.
+#![tactic(auto)]
+
 mod page;
 mod reading;
 mod telling;
@@ -8,7 +10,7 @@ mod texts;
 use words::{Job, Order};
 
 // The order of the words, which of them name the file and the lemma file (0 is none), and which was the last that was read.
-#[derive(Drop)]
+#[derive(Clone, Copy)]
 struct Given {
     order: Order,
     file: usize,

@@ -1,5 +1,7 @@
 // The jobs for C and Rust, over a problem file and over a circuit with its lemmas, and nothing else. include/trim.h says the whole contract in
 // words.
+#![tactic(auto)]
+
 ghost use Rattle.std.specs.Prelude.{◌≡◌, []};
 ghost use Rattle.meaning.specs.Calls.{check_call, largest_call, one_call, list_call};
 ghost use Rattle.meaning.specs.Circuits.{circuit_check_call, circuit_largest_call, circuit_one_call, circuit_list_call, circuit_problem_call};

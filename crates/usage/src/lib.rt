@@ -1,4 +1,6 @@
 // What the program `trim` says of its words: what is wrong with them, how it is used, and its version.
+#![tactic(auto)]
+
 mod texts;
 
 pub use texts::{

@@ -1,4 +1,6 @@
 // The words of a command line of the program `trim`, read one after another into an order.
+#![tactic(auto)]
+
 mod order;
 mod taking;
 

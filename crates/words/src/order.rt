@@ -7,7 +7,7 @@ ghost use Rattle.words.specs.Orders.{with_file, with_budget, with_space};
 use spelling::Number;
 
 // What is to be done. Awaited: no word was read yet.
-#[derive(Drop)]
+#[derive(Clone, Copy)]
 pub enum Job {
     Awaited,
     Check,
@@ -20,7 +20,7 @@ pub enum Job {
 }
 
 // What is wrong with the words.
-#[derive(Drop)]
+#[derive(Clone, Copy)]
 pub enum Fault {
     Nothing,
     Unknown,
@@ -37,7 +37,7 @@ pub enum Fault {
 // The order so far: the job, how many words were named for it (file, budget, space, in this order), whether marks alone are wanted, the
 // budget in decisions, the space in bytes, whether the next word names the lemma file, whether that is named, whether a file is standard
 // input, and the first fault.
-#[derive(Drop)]
+#[derive(Clone, Copy)]
 pub struct Order {
     pub job: Job,
     pub named: usize,

@@ -1,0 +1,19 @@
+-- `is_clause` goes by the class, as the definition does.
+use Rattle.meaning.specs.File
+use Rattle.problem.proofs.rules.is_clause.Goals as goal
+
+pub returns-in-Nothing : goal.returns-in-Nothing
+unfolding File.is_clause
+returns-in-Nothing c = rw c.in-Nothing.is
+
+pub returns-in-State : goal.returns-in-State
+unfolding File.is_clause
+returns-in-State c = rw c.in-State.is
+
+pub returns-in-Present : goal.returns-in-Present
+unfolding File.is_clause
+returns-in-Present c = rw c.in-Present.is
+
+pub returns-in-Every : goal.returns-in-Every
+unfolding File.is_clause
+returns-in-Every c = rw c.in-Every.is
