@@ -39,15 +39,15 @@ loop-number-init c =
     let w = c.at_start-w.ensures in (
       subst⁻¹ (λ (r : Reader). Reached file r c.at_start-s.result) w
           (subst⁻¹ (Reached file File.at_start) c.at_start-s.ensures (reached_start file c.if-file-gt-FILE_MOST.false)),
-      λ e. omega (arith, ap (λ (r : Reader). r) w, e),
+      λ e. omega (arith, ap (λ (r : Reader). r.before) w, e),
     )
 
 pub returns-in-Stop : goal.returns-in-Stop
 returns-in-Stop c =
-    let told = c.step-1.given in
+    let told = c.in-Stop in
     let found = c in
     let inv = found.loop-number.invariant in (
-      sym (stops inv.0 inv.1 (subst (Stepped _ (reader_of found.loop-number.w) (record_rules _ (reader_of found.loop-number.w))) told.1 found.record_at-step.ensures)),
+      sym (stops inv.0 inv.1 (subst (Stepped _ (reader_of found.loop-number.w) (record_rules _ (reader_of found.loop-number.w))) told.is found.record_at-step.ensures)),
       tt,
     )
 
