@@ -1,6 +1,6 @@
 -- What inductive, safe and minimal say of three starred cases, so that a change of one of these definitions is noticed. The tables of `Cases`
 -- compute, and these do not: they speak of every state.
-use Rattle.std.specs.Prelude.{ℕ, zero, suc, ◌+◌, ◌-◌, ◌≡◌, refl, Bool, true, false, not, ◌&&◌, ◌||◌, List, [], ◌∷◌, ◌++◌, length}
+use Rattle.std.specs.Prelude.{zero, suc, ◌≡◌, refl, Bool, true, false, not, ◌&&◌, ◌||◌, [], ◌∷◌}
 use Rattle.std.proofs.Common.{sym, true≢false}
 use Rattle.meaning.specs.Clauses
 use Rattle.meaning.specs.Clauses.{Values, all_hold}

@@ -1,6 +1,6 @@
 -- Which states of the small loader are bad, so that a change of that definition is noticed. The tables of `Cases` compute, and these do not:
 -- they speak of every input.
-use Rattle.std.specs.Prelude.{ℕ, zero, suc, ◌+◌, ◌-◌, ◌≡◌, refl, Bool, true, false, not, ◌&&◌, ◌||◌, List, [], ◌∷◌, ◌++◌, length}
+use Rattle.std.specs.Prelude.{zero, suc, ◌≡◌, refl, Bool, true, false, not, ◌&&◌, ◌||◌}
 use Rattle.std.proofs.Common.{sym, true≢false}
 use Rattle.meaning.specs.Clauses
 use Rattle.meaning.specs.Clauses.{Values, all_hold}
