@@ -1,6 +1,6 @@
 -- The problem file that a call writes: read back, it is the problem of the two texts.
-use Rattle.std.specs.Prelude.{ℕ, ◌≡◌, refl, ◌⊎◌, Bool, true, false, cond, List, ◌++◌, length, take, drop, ltb}
-use Rattle.std.proofs.Common.{arith, ap, subst, ◌∙◌, inl, inr}
+use Rattle.std.specs.Prelude.{ℕ, ◌≡◌, ◌⊎◌, Bool, true, false, cond, List, ◌++◌, length, take, drop, ltb}
+use Rattle.std.proofs.Common.{ap, subst, ◌∙◌, inl, inr}
 use Rattle.std.proofs.Math.Seq.{take-append_seam}
 use Rattle.meaning.specs.Meaning.{Problem, k}
 use Rattle.meaning.specs.File.{Reading, accepted, read}

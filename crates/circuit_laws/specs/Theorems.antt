@@ -10,7 +10,6 @@ use Rattle.meaning.specs.Demands.{In, Answered, NoRunIsBad}
 use Rattle.meaning.specs.Circuit.{Circuit, StartState, NextState, CircuitRun, CanBeBad}
 use Rattle.meaning.specs.CircuitText
 use Rattle.meaning.specs.CircuitText.{read_circuit_text}
-use Rattle.meaning.specs.LemmaText
 use Rattle.meaning.specs.Circuits.{read_circuit, CircuitProgram, circuit_one_call}
 use Rattle.laws.specs.Paper.{one_minimal}
 use Rattle.laws.specs.Runs.{no_run_is_bad}

@@ -1,5 +1,5 @@
 -- A problem within the limits of document 01.
-use Rattle.std.specs.Prelude.{ℕ, ◌+◌, ◌≤◌, List, [], ◌∷◌, length}
+use Rattle.std.specs.Prelude.{◌+◌, ◌≤◌, List, [], ◌∷◌, length}
 use Rattle.meaning.specs.Clauses.{Clause}
 use Rattle.meaning.specs.Meaning.{Problem}
 use Rattle.meaning.specs.File.{file_most, n_most, m_most, clauses_most, lemmas_most}

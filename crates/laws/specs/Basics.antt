@@ -1,9 +1,9 @@
 -- Truth values, and tests over lists: what the other files lean on.
-use Rattle.std.specs.Prelude.{ℕ, zero, suc, ◌+◌, ◌≤◌, ◌<◌, ◌≡◌, ◌⊎◌, Bool, not, ◌&&◌, ◌||◌, cond}
+use Rattle.std.specs.Prelude.{ℕ, suc, ◌≡◌, ◌⊎◌, Bool, not, ◌&&◌, ◌||◌}
 use Rattle.std.proofs.Common.{arith, sym, ◌∙◌, inl, inr, true≢false}
 use Rattle.std.proofs.Math.Path.{refl, ap}
 use Rattle.std.proofs.Math.Bool.{true, false}
-use mathlib.Core.List.{List, [], ◌∷◌, ◌++◌, map}
+use mathlib.Core.List.{List, [], ◌∷◌, ◌++◌}
 use Rattle.meaning.specs.Clauses.{any, all}
 use Rattle.meaning.specs.Demands.{In}
 

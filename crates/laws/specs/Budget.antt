@@ -1,6 +1,6 @@
 -- The budget and the space: what a call that they cut leaves, and exactly when they cut it.
-use Rattle.std.specs.Prelude.{ℕ, zero, suc, ◌+◌, ◌*◌, ◌-◌, ◌≤◌, ◌<◌, ◌≡◌, refl, ◌⊎◌, ◌↔◌, Bool, true, false, cond, List, [], ◌∷◌, ◌++◌, map, length, take, drop, ltb}
-use Rattle.std.proofs.Common.{sym, ap, subst, subst₂, ◌∙◌, inl, inr, append_assoc, append-nil, arith, suc-mul, add_comm, add-suc, le_trans, mul-le-mul_right, ltb-true, ltb-false, lt-ltb, le-ltb}
+use Rattle.std.specs.Prelude.{ℕ, suc, ◌+◌, ◌*◌, ◌≤◌, ◌<◌, ◌≡◌, refl, ◌↔◌, Bool, true, false, cond, List, [], ◌∷◌, ◌++◌, length, take, ltb}
+use Rattle.std.proofs.Common.{sym, ap, subst, subst₂, ◌∙◌, append_assoc, append-nil, arith, suc-mul, le_trans, mul-le-mul_right, ltb-true, ltb-false, lt-ltb, le-ltb}
 use Rattle.std.proofs.Math.Path.{subst⁻¹}
 use Rattle.std.proofs.Math.Option.{Option, none, some}
 use Rattle.meaning.specs.Meaning.{Marks}

@@ -1,13 +1,12 @@
 -- Demands 1, 2 and 3, proved of the calls of `meaning`.
-use Rattle.std.specs.Prelude.{ℕ, zero, suc, ◌+◌, ◌*◌, ◌≤◌, ◌<◌, ◌≡◌, refl, ◌↔◌, ◌⊎◌, Bool, true, false, cond, List, [], ◌∷◌, ◌++◌, map, length, take, drop, ltb}
-use Rattle.std.proofs.Common.{sym, ap, subst, ◌∙◌, inl, inr, arith, zero-mul, ltb-true, ltb-false, le-ltb}
+use Rattle.std.specs.Prelude.{ℕ, zero, suc, ◌+◌, ◌*◌, ◌≤◌, ◌≡◌, refl, ◌↔◌, Bool, true, false, cond, List, [], ◌∷◌, length, take, ltb}
+use Rattle.std.proofs.Common.{sym, ap, subst, ◌∙◌, inl, inr, arith, zero-mul, le-ltb}
 use Rattle.std.proofs.Math.Path.{subst⁻¹}
 use Rattle.std.proofs.Math.Option.{Option, none, some}
 use Rattle.std.proofs.lemmas.List.{length-map}
-use Rattle.meaning.specs.Meaning.{Problem, k, Marks, SetOf, Minimal}
+use Rattle.meaning.specs.Meaning.{Problem, k, Marks, SetOf}
 use Rattle.meaning.specs.File.{accepted, read}
 use Rattle.meaning.specs.Rules.{asked, Row, Listing, largest, one, listing}
-use Rattle.meaning.specs.Calls
 use Rattle.meaning.specs.Calls.{Outcome, Program, refusal, answered, on_reading, written, marked, within, with_room, cut, listed, largest_job, one_job, list_job, check_call, largest_call, one_call, list_call}
 use Rattle.meaning.specs.Demands
 use Rattle.meaning.specs.Demands.{Trimmer, In, Answered, RefusedBy, marks_in, rows_in, set_left, rows_left, one_count, list_count, SomeSafeInductive, Complete, FirstRows, RowsFit, FixedBy, Demand1, Demand2, Demand3}
@@ -21,7 +20,7 @@ use Rattle.laws.specs.ListingRight.{row_sets}
 use Rattle.laws.specs.RowOrder.{ordered_unique}
 use Rattle.laws.specs.Budget.{AllLong, AllFound, Leaves, cut_leaves, cut_answered, cut_completes}
 use Rattle.laws.specs.FoundAt.{listing_found}
-use Rattle.laws.specs.Paper.{largest_is, one_minimal, one_none_is, one_some_is, listing_complete, listing_last, listing_safe}
+use Rattle.laws.specs.Paper.{largest_is, one_minimal, one_some_is, listing_complete, listing_last, listing_safe}
 
 -- the trimmer that document 01 fixes
 unfoldable pub the_trimmer : Trimmer

@@ -1,7 +1,6 @@
 -- A listing as it is done, row by row: what stands after each row or count, and that this is the listing cut by budget and space.
-use Rattle.std.specs.Prelude.{ℕ, zero, suc, ◌+◌, ◌*◌, ◌≤◌, ◌<◌, ◌≡◌, refl, Bool, true, false, cond, List, [], ◌∷◌, ◌++◌, map, length, ltb}
-use Rattle.std.proofs.Common.{sym, ap, subst, ◌∙◌, arith, add_assoc, lt-ltb, le-ltb, ltb-true}
-use Rattle.meaning.specs.Meaning.{Marks}
+use Rattle.std.specs.Prelude.{ℕ, suc, ◌+◌, ◌*◌, ◌<◌, ◌≡◌, refl, Bool, true, false, cond, List, [], ◌∷◌, ◌++◌, map, length, ltb}
+use Rattle.std.proofs.Common.{ap, arith, add_assoc, lt-ltb, ltb-true}
 use Rattle.meaning.specs.Rules.{Row, Rows, later, rows_after, and_then, no_rows}
 use Rattle.meaning.specs.Calls.{Outcome, refusal, answered, written, row_or_stop, cut, listed}
 

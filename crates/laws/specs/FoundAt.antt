@@ -1,13 +1,12 @@
 -- Every row of a listing was found at or before its count.
 use Prim.Native.Nat.{ℕ, zero, suc, ◌+◌, ◌≤◌}
-use Rattle.std.specs.Prelude.{◌≡◌, refl, Bool, List, [], ◌∷◌, ◌++◌, map, replicate}
+use Rattle.std.specs.Prelude.{Bool, List, [], ◌∷◌, ◌++◌, map, replicate}
 use Rattle.std.proofs.Math.Bool.{true, false}
 use Rattle.std.proofs.Math.Option.{Option, none, some}
 use native.Mathlib.Omega.{arith}
 use Rattle.std.proofs.Common.{le_trans}
 use Rattle.meaning.specs.Meaning.{Marks}
-use Rattle.meaning.specs.Rules
-use Rattle.meaning.specs.Rules.{Question, Answer, safety, Row, Rows, Listing, no_rows, later, rows_after, and_then, smaller, reduced, contains, failing, row_unless, row_of, node_unless, node_if_safe, exclude, branch, node_at, node, list_if, listing, largest_safety, largest, with_position, lowest, size}
+use Rattle.meaning.specs.Rules.{Question, Answer, safety, Row, Rows, no_rows, later, rows_after, and_then, smaller, reduced, contains, failing, row_unless, row_of, node_unless, node_if_safe, exclude, branch, node_at, node, list_if, listing, largest_safety, largest, with_position, lowest, size}
 use Rattle.laws.specs.Budget.{AllFound}
 
 found_later : (d c : ℕ) (rows : List Row) → AllFound c rows → AllFound (d + c) (map (later d) rows)

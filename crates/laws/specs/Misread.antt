@@ -12,7 +12,6 @@ use Rattle.meaning.specs.Calls
 use Rattle.meaning.specs.Calls.{Outcome, Program, refusal, answered, on_reading, one_job, one_call}
 use Rattle.meaning.specs.Demands
 use Rattle.meaning.specs.Demands.{set_left, one_count, SomeSafeInductive, Demand2}
-use Rattle.meaning.specs.Filed
 use Rattle.meaning.specs.Filed.{file_of}
 use Rattle.meaning.specs.Cases
 use Rattle.meaning.specs.Cases.{case_checksum, sevens, starred, line, run_line, outcome_of}

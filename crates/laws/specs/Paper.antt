@@ -1,11 +1,11 @@
 -- The laws on sets, which speak of answers, said of problems: what Largest set, One set and Listing give by the paper's own definitions.
-use Rattle.std.specs.Prelude.{ℕ, ◌≡◌, refl, ◌↔◌, ◌⊎◌, Bool, true, false, List, [], ◌∷◌, ◌++◌, length, replicate}
-use Rattle.std.proofs.Common.{sym, ap, subst, ◌∙◌, inl, inr}
-use Rattle.std.proofs.Math.Option.{Option, none, some}
+use Rattle.std.specs.Prelude.{ℕ, ◌≡◌, ◌↔◌, true, false, List, [], ◌∷◌, ◌++◌, replicate}
+use Rattle.std.proofs.Common.{ap, ◌∙◌}
+use Rattle.std.proofs.Math.Option.{none, some}
 use Rattle.std.proofs.lemmas.List.{length-replicate}
-use Rattle.meaning.specs.Meaning.{Problem, k, Marks, has, SetOf, Inductive, Safe, SafeInductive, Part, ProperPart, Minimal}
-use Rattle.meaning.specs.Rules.{Question, initiation, step, safety, asked, largest, one, listing}
-use Rattle.meaning.specs.Demands.{In, Complete, IsLargest, SomeSafeInductive}
+use Rattle.meaning.specs.Meaning.{Problem, k, Marks, has, SetOf, Inductive, SafeInductive, Minimal}
+use Rattle.meaning.specs.Rules.{asked, largest, one, listing}
+use Rattle.meaning.specs.Demands.{Complete, IsLargest, SomeSafeInductive}
 use Rattle.laws.specs.Basics.{not_both}
 use Rattle.laws.specs.Sets.{has_empty}
 use Rattle.laws.specs.Within.{WellFormed}

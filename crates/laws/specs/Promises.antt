@@ -1,6 +1,6 @@
 -- From the jobs' promises to the demands: whatever meets the promise of each job, for every file, budget and lent bytes, meets all three. The
 -- code's contracts are these promises (`FixedBy`), so demands 2 and 3 hold of the functions that a user calls.
-use Rattle.std.specs.Prelude.{ℕ, ◌≡◌, List}
+use Rattle.std.specs.Prelude.{◌≡◌}
 use Rattle.std.proofs.Math.Path.{fun_ext, subst⁻¹}
 use Rattle.meaning.specs.Calls.{Program, check_call, largest_call, one_call, list_call}
 use Rattle.meaning.specs.Demands.{Trimmer, FixedBy, Demand1, Demand2, Demand3}

@@ -1,8 +1,8 @@
 -- From a safe inductive set: no state of any run is bad.
-use Rattle.std.specs.Prelude.{ℕ, ◌≡◌, ◌⊎◌, List, [], ◌∷◌}
+use Rattle.std.specs.Prelude.{◌≡◌, ◌⊎◌, List, [], ◌∷◌}
 use Rattle.std.proofs.Math.Path.{subst⁻¹}
 use Rattle.std.proofs.Common.{inl, inr}
-use Rattle.meaning.specs.Meaning.{Problem, State, BadState, StepsFrom, Run, Marks, AllOf, Inductive, SafeInductive}
+use Rattle.meaning.specs.Meaning.{Problem, State, StepsFrom, Run, Marks, AllOf, Inductive, SafeInductive}
 use Rattle.meaning.specs.Demands.{In, NoRunIsBad}
 
 -- all of an inductive set hold in every state that steps lead to

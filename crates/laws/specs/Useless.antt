@@ -1,14 +1,11 @@
 -- The six useless programs of document 01, each written down as a program and refuted, by the demand or rule that document 01 names for it.
-use Rattle.std.specs.Prelude.{ℕ, zero, suc, ◌+◌, ◌≡◌, refl, ◌↔◌, ◌⊎◌, Bool, true, false, List, [], ◌∷◌, map, length, get_or, replicate}
+use Rattle.std.specs.Prelude.{ℕ, zero, suc, ◌≡◌, refl, true, false, List, [], ◌∷◌, map, get_or, replicate}
 use Rattle.std.proofs.Common.{sym, ap, subst, ◌∙◌, inl, inr, true≢false, arith, le_refl}
-use Rattle.std.proofs.Math.Path.{subst⁻¹}
-use Rattle.std.proofs.Math.Option.{Option, none, some}
 use Rattle.meaning.specs.Clauses
 use Rattle.meaning.specs.Meaning
 use Rattle.meaning.specs.Meaning.{Problem, k, Marks, Minimal}
 use Rattle.meaning.specs.File
 use Rattle.meaning.specs.File.{accepted, read}
-use Rattle.meaning.specs.Rules.{asked, largest}
 use Rattle.meaning.specs.Calls
 use Rattle.meaning.specs.Calls.{Outcome, Program, refusal, answered, on_reading, written, check_call, largest_call, one_call, list_call}
 use Rattle.meaning.specs.Demands

@@ -1,8 +1,8 @@
 -- What a row of marks that was written reads as, and what the rows before it do.
-use Rattle.std.specs.Prelude.{ℕ, zero, suc, ◌+◌, ◌*◌, ◌-◌, ◌≤◌, ◌<◌, min, ◌≡◌, refl, Bool, true, false, cond, List, [], ◌∷◌, ◌++◌, map, length, take, drop, eqb}
-use Rattle.std.proofs.Common.{sym, ap, ap₂, subst, ◌∙◌, append_assoc, append-nil, arith, suc-mul, add_comm, add_assoc, zero-mul, length-append, length-take, length-drop, take-add, drop-drop, take_at, drop_at, length-take-le}
+use Rattle.std.specs.Prelude.{ℕ, zero, suc, ◌+◌, ◌*◌, ◌≤◌, ◌≡◌, refl, true, false, List, [], ◌∷◌, ◌++◌, map, length, take, drop, eqb}
+use Rattle.std.proofs.Common.{sym, ap, ap₂, ◌∙◌, append_assoc, arith, suc-mul, add_comm, zero-mul, length-append, length-take, length-drop, take-add, drop-drop, take_at, drop_at, length-take-le}
 use Rattle.std.proofs.Math.Path.{subst⁻¹}
-use Rattle.std.proofs.lemmas.List.{length-map, take-append-le, drop-append-le}
+use Rattle.std.proofs.lemmas.List.{length-map}
 use Rattle.meaning.specs.Meaning.{Marks}
 use Rattle.meaning.specs.Calls.{mark, written}
 use Rattle.meaning.specs.Demands.{marks_in, rows_in}

@@ -1,5 +1,5 @@
 -- The problem that is built from a circuit and its lemmas: which variable is which, and its clauses in their order.
-use Rattle.std.specs.Prelude.{ℕ, zero, suc, ◌+◌, Bool, true, false, not, cond, List, [], ◌∷◌, ◌++◌, map, length, eqb}
+use Rattle.std.specs.Prelude.{ℕ, suc, ◌+◌, Bool, true, false, not, cond, List, [], ◌∷◌, ◌++◌, map, length, eqb}
 use Rattle.meaning.specs.Clauses.{Literal, pos, neg, Clause, negation, any}
 use Rattle.meaning.specs.Meaning.{Problem}
 use Rattle.meaning.specs.Circuit.{Circuit, Latch, Gate, Start, at_0, at_1, at_either, var, negated, bad_literal, input_variables, latch_variables, gate_variables}

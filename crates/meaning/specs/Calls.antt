@@ -1,9 +1,9 @@
 -- What a call of each job answers, with any file, any budget and any lent bytes, and every lent byte afterwards.
-use Rattle.std.specs.Prelude.{ℕ, zero, suc, ◌+◌, ◌*◌, Bool, true, false, cond, List, [], ◌∷◌, ◌++◌, map, length, take, drop, ltb}
+use Rattle.std.specs.Prelude.{ℕ, suc, ◌+◌, ◌*◌, Bool, true, false, cond, List, [], ◌∷◌, ◌++◌, map, length, take, drop, ltb}
 use Rattle.std.proofs.Math.Option.{Option, none, some}
 use Rattle.meaning.specs.Meaning.{Problem, Marks, k}
-use Rattle.meaning.specs.File.{Reading, accepted, rejected, Refusal, read}
-use Rattle.meaning.specs.Rules.{asked, Counted, Single, Row, Listing, largest, one, listing}
+use Rattle.meaning.specs.File.{Reading, accepted, rejected, read}
+use Rattle.meaning.specs.Rules.{asked, Row, Listing, largest, one, listing}
 
 -- What a call returns; what is not given for an answer is 0. Number 0: answered, with no refusal
 pub record Report : Type 0 where

@@ -1,7 +1,6 @@
 -- The starred cases A to J of document 01, with every value it states of them, three cases more for the counts and the rounds, and a loader
 -- whose Bad looks at inputs, as one table under one statement that computes.
-use Rattle.std.specs.Prelude.{ℕ, zero, suc, ◌+◌, ◌-◌, ◌*◌, ◌/◌, ◌%◌, ◌≡◌, refl, Bool, true, false, List, [], ◌∷◌, ◌++◌, map, length, replicate, take}
-use Rattle.std.proofs.Math.Option.{Option, none, some}
+use Rattle.std.specs.Prelude.{ℕ, ◌≡◌, refl, List, [], ◌∷◌, ◌++◌, map, replicate}
 use Rattle.meaning.specs.Clauses
 use Rattle.meaning.specs.Clauses.{Literal, pos, neg, Clause}
 use Rattle.meaning.specs.Meaning

@@ -1,6 +1,6 @@
 -- A circuit by itself, in the words of the AIGER format, both editions: the value of a literal, start states, next states, runs, and bad
 -- states. An older circuit is one whose latches all start at 0 and that has no constraints. Nothing here speaks of clauses or of problem files.
-use Rattle.std.specs.Prelude.{ℕ, zero, suc, ◌/◌, ◌%◌, ◌≡◌, Bool, true, false, not, ◌&&◌, cond, List, [], ◌∷◌, ◌++◌, map, get_or, eqb}
+use Rattle.std.specs.Prelude.{ℕ, suc, ◌/◌, ◌%◌, ◌≡◌, Bool, true, false, not, ◌&&◌, cond, List, [], ◌∷◌, ◌++◌, map, get_or, eqb}
 use Rattle.meaning.specs.Clauses.{Values}
 use Rattle.meaning.specs.Meaning.{State}
 

@@ -1,6 +1,6 @@
 -- Small circuits with their lemmas, printed from their numbers, and what they are read as: a table under one statement that computes. It pins
 -- the order of clauses and of literals, the constants, and the line at fault.
-use Rattle.std.specs.Prelude.{ℕ, zero, suc, ◌+◌, ◌-◌, ◌*◌, ◌/◌, ◌%◌, ◌≡◌, refl, Bool, true, false, cond, List, [], ◌∷◌, ◌++◌, map, length, ltb}
+use Rattle.std.specs.Prelude.{ℕ, ◌+◌, ◌/◌, ◌%◌, ◌≡◌, refl, cond, List, [], ◌∷◌, ◌++◌, map, length, ltb}
 use Rattle.meaning.specs.Clauses
 use Rattle.meaning.specs.Clauses.{Literal, pos, neg, Clause}
 use Rattle.meaning.specs.File

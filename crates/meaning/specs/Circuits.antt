@@ -1,5 +1,5 @@
 -- Circuits as every job reads them: two texts in place of a problem file. 13 of the circuit, 13 of the lemmas, 15, 14, then 9 and the rest.
-use Rattle.std.specs.Prelude.{ℕ, zero, suc, ◌+◌, Bool, true, false, not, ◌||◌, cond, List, [], ◌∷◌, ◌++◌, length, drop, ltb, eqb}
+use Rattle.std.specs.Prelude.{ℕ, ◌+◌, Bool, not, ◌||◌, cond, List, ◌++◌, length, drop, ltb, eqb}
 use Rattle.meaning.specs.Clauses.{Clause, any}
 use Rattle.meaning.specs.Meaning.{Problem, k}
 use Rattle.meaning.specs.File.{Reading, accepted, rejected, file_most, n_most, m_most, clauses_most, lemmas_most}

@@ -1,5 +1,5 @@
 -- Literals, clauses and clause lists, and where they hold.
-use Rattle.std.specs.Prelude.{ℕ, zero, suc, Bool, true, false, not, ◌&&◌, ◌||◌, List, [], ◌∷◌}
+use Rattle.std.specs.Prelude.{ℕ, Bool, true, false, not, ◌&&◌, ◌||◌, List, [], ◌∷◌}
 
 -- v for a variable, -v for its negation
 pub data Literal : Type 0 where

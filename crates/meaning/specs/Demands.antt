@@ -1,6 +1,6 @@
 -- The three demands, as predicates on any four programs: any functions from a file, a budget and lent bytes to an outcome.
-use Rattle.std.specs.Prelude.{ℕ, zero, suc, ◌+◌, ◌*◌, ◌≤◌, ◌<◌, ◌≡◌, ◌↔◌, ◌⊎◌, Bool, true, false, List, [], ◌∷◌, ◌++◌, map, length, take, drop, eqb}
-use Rattle.meaning.specs.Meaning.{Problem, k, State, BadState, Run, Marks, has, SetOf, Inductive, SafeInductive, Part, ProperPart, Minimal}
+use Rattle.std.specs.Prelude.{ℕ, zero, suc, ◌*◌, ◌≤◌, ◌<◌, ◌≡◌, ◌↔◌, ◌⊎◌, true, false, List, [], ◌∷◌, ◌++◌, map, length, take, drop, eqb}
+use Rattle.meaning.specs.Meaning.{Problem, k, State, BadState, Run, Marks, has, SetOf, Inductive, SafeInductive, Part, Minimal}
 use Rattle.meaning.specs.File.{accepted, read}
 use Rattle.meaning.specs.Rules.{asked, one, listing}
 use Rattle.meaning.specs.Calls.{Outcome, Program, check_call, largest_call, one_call, list_call}

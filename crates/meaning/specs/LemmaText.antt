@@ -1,6 +1,6 @@
 -- The lemma text: one lemma a line, signed latch numbers closed by 0.
-use Rattle.std.specs.Prelude.{ℕ, zero, suc, Bool, true, false, ◌&&◌, cond, List, [], ◌∷◌, map, length, get_or, drop, leb, eqb}
-use Rattle.meaning.specs.Clauses.{Literal, pos, neg, Clause}
+use Rattle.std.specs.Prelude.{ℕ, zero, suc, Bool, true, false, ◌&&◌, cond, List, [], ◌∷◌, length, get_or, drop, leb, eqb}
+use Rattle.meaning.specs.Clauses.{Literal, Clause}
 use Rattle.meaning.specs.File.{between}
 use Rattle.meaning.specs.Built.{literal_if}
 use Rattle.meaning.specs.Lines.{line_at, ended, next_line, words, is_number, decimal}

@@ -1,5 +1,5 @@
 -- Lines of a text, their words and numbers: what the circuit text and the lemma text are made of. A text is a list of bytes.
-use Rattle.std.specs.Prelude.{ℕ, zero, suc, ◌+◌, ◌-◌, ◌*◌, Bool, true, false, not, ◌&&◌, cond, List, [], ◌∷◌, length, drop, ltb, eqb}
+use Rattle.std.specs.Prelude.{ℕ, suc, ◌+◌, ◌-◌, ◌*◌, Bool, true, false, not, ◌&&◌, cond, List, [], ◌∷◌, length, drop, ltb, eqb}
 use Rattle.meaning.specs.Clauses.{all}
 use Rattle.meaning.specs.File.{between}
 

@@ -1,6 +1,6 @@
 -- A problem, its states, steps and runs; sets of lemmas; initiation, inductive, safe, minimal.
-use Rattle.std.specs.Prelude.{ℕ, zero, suc, ◌+◌, ◌-◌, ◌≡◌, Bool, true, false, cond, List, [], ◌∷◌, length, get_or, leb}
-use Rattle.meaning.specs.Clauses.{Literal, Clause, Values, all_hold}
+use Rattle.std.specs.Prelude.{ℕ, ◌+◌, ◌-◌, ◌≡◌, Bool, true, false, cond, List, [], ◌∷◌, length, get_or, leb}
+use Rattle.meaning.specs.Clauses.{Clause, Values, all_hold}
 
 -- n state variables, m inputs and helpers, and the four clause lists in file order
 pub record Problem : Type 0 where

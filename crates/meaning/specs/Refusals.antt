@@ -1,7 +1,7 @@
 -- Small files that pin each refusal of a file, 1 to 8, with its place, and the order of two that one record can meet: a second table of the
 -- same make as that of `Cases`, under one statement that computes. Case L of document 01 stands in it whole, cut and longer. What takes 4,097
 -- records is too long for it and is run instead.
-use Rattle.std.specs.Prelude.{ℕ, zero, suc, ◌+◌, ◌-◌, ◌*◌, ◌/◌, ◌%◌, ◌≡◌, refl, List, [], ◌∷◌, ◌++◌, map, length, replicate}
+use Rattle.std.specs.Prelude.{ℕ, zero, suc, ◌≡◌, refl, List, [], ◌∷◌, ◌++◌, map, replicate}
 use Rattle.meaning.specs.Clauses
 use Rattle.meaning.specs.Meaning
 use Rattle.meaning.specs.File

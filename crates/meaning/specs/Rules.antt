@@ -1,6 +1,6 @@
 -- The three questions, and Rounds, Largest set, One set and Listing over any way to ask them. No budget stands here: each question has its
 -- answer and its count, and `Calls` cuts the result by the budget and the space.
-use Rattle.std.specs.Prelude.{ℕ, zero, suc, ◌+◌, ◌-◌, Bool, true, false, not, ◌&&◌, ◌||◌, cond, List, [], ◌∷◌, ◌++◌, map, length, get_or, set, replicate}
+use Rattle.std.specs.Prelude.{ℕ, zero, suc, ◌+◌, Bool, true, false, not, ◌&&◌, ◌||◌, cond, List, [], ◌∷◌, ◌++◌, map, get_or, set, replicate}
 use Rattle.std.proofs.Math.Option.{Option, none, some}
 use Rattle.meaning.specs.Clauses.{Literal, pos, neg, Clause, negation, any, all}
 use Rattle.meaning.specs.Meaning.{Problem, Marks, has, lemmas_of, k}

@@ -1,7 +1,7 @@
 -- The search with its count of decisions: rules (a) to (d), at a partial setting.
-use Rattle.std.specs.Prelude.{ℕ, zero, suc, ◌+◌, Bool, true, false, not, List, [], ◌∷◌, length, get_or, set, replicate}
+use Rattle.std.specs.Prelude.{ℕ, zero, suc, ◌+◌, Bool, true, false, not, List, [], ◌∷◌, get_or, set, replicate}
 use Rattle.std.proofs.Math.Option.{Option, none, some}
-use Rattle.meaning.specs.Clauses.{Literal, pos, neg, Clause, variable, negation, any, all}
+use Rattle.meaning.specs.Clauses.{Literal, pos, neg, Clause, negation, any, all}
 
 -- A partial setting: by variable number (0 stands idle), a value, or none where the variable is unset
 abbrev pub Setting : Type 0

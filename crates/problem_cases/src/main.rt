@@ -4,29 +4,29 @@
 
 ghost use Rattle.std.specs.Prelude.{◌≤◌};
 
-use libc::STDOUT_FILENO;
+use std::io;
 
-fn number(x: usize) {
-    io::write_all(STDOUT_FILENO, b" ");
-    io::print_decimal(STDOUT_FILENO, x as u64);
+fn number(rt: &HostRuntime, x: usize) -> io::Result<()> {
+    print!(rt; " {x}")
 }
 
-fn show(name: &[u8], file: &[u8]) {
+fn show(rt: &HostRuntime, name: &str, file: &[u8]) -> io::Result<()> {
     let r = problem::check(file);
-    io::write_all(STDOUT_FILENO, name);
-    number(r.number as usize);
-    number(r.place);
-    number(r.n);
-    number(r.m);
-    number(r.k);
-    io::write_all(STDOUT_FILENO, b"\n");
+    print!(rt; "{name}")?;
+    number(rt, r.number as usize)?;
+    number(rt, r.place)?;
+    number(rt, r.n)?;
+    number(rt, r.m)?;
+    number(rt, r.k)?;
+    println!(rt; "")
 }
 
 // The first bytes of a file.
-fn show_front(name: &[u8], file: &[u8], n: usize) {
+fn show_front(rt: &HostRuntime, name: &str, file: &[u8], n: usize) -> io::Result<()> {
     if n <= file.len() {
-        show(name, &file[..n]);
+        return show(rt, name, &file[..n]);
     }
+    Ok(())
 }
 
 // A file of n state variables, `count` records of a kind with no literals, and the end. It starts as zeros, so that only the other bytes are
@@ -45,33 +45,35 @@ fn fill(n: u8, kind: u8, count: usize, file: &mut [u8; 16400])
     file[10 + 4 * count] = 6;
 }
 
-fn show_array(name: &[u8], file: &[u8; 16400], n: usize) {
-    show_front(name, file, n);
+fn show_array(rt: &HostRuntime, name: &str, file: &[u8; 16400], n: usize) -> io::Result<()> {
+    show_front(rt, name, file, n)
 }
 
-fn show_filled(name: &[u8], n: u8, kind: u8, count: usize)
+fn show_filled(rt: &HostRuntime, name: &str, n: u8, kind: u8, count: usize) -> io::Result<()>
     requires { count ≤ 4097 }
 {
     let mut file = [0u8; 16400];
     fill(n, kind, count, &mut file);
     let end = 12 + 4 * count;
-    show_array(name, &file, end);
+    show_array(rt, name, &file, end)
 }
 
-fn main() {
+fn main(rt: HostRuntime) -> io::Result<()> {
     let l =
         b"\x04\x00\x01\x00\x01\x00\x00\x00\x02\x00\x02\x00\x01\x00\x04\x00\x03\x00\xfe\xff\x01\x00\x04\x00\x03\x00\x02\x00\xff\xff\x02\x00\x04\x00\xff\xff\x02\x00\x05\x00\x01\x00\x00\x00\x06\x00\x00";
-    show_front(b"L", l, 46);
-    show_front(b"L-cut", l, 45);
-    show(b"L-longer", l);
-    show_filled(b"n-96", 96, 5, 0);
-    show_filled(b"n-97", 97, 5, 0);
-    show_filled(b"lemmas-128", 1, 5, 128);
-    show_filled(b"lemmas-129", 1, 5, 129);
-    show_filled(b"clauses-4096", 1, 2, 4096);
-    show_filled(b"clauses-4097", 1, 2, 4097);
+    show_front(&rt, "L", l, 46)?;
+    show_front(&rt, "L-cut", l, 45)?;
+    show(&rt, "L-longer", l)?;
+    show_filled(&rt, "n-96", 96, 5, 0)?;
+    show_filled(&rt, "n-97", 97, 5, 0)?;
+    show_filled(&rt, "lemmas-128", 1, 5, 128)?;
+    show_filled(&rt, "lemmas-129", 1, 5, 129)?;
+    show_filled(&rt, "clauses-4096", 1, 2, 4096)?;
+    show_filled(&rt, "clauses-4097", 1, 2, 4097)?;
     show(
-        b"literal-least",
+        &rt,
+        "literal-least",
         b"\x04\x00\x01\x00\x01\x00\x00\x00\x02\x00\x05\x00\x00\x80\x00\x00\x06\x00",
-    );
+    )?;
+    Ok(())
 }

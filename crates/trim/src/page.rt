@@ -1,6 +1,16 @@
 // Pages: a text is written on one, and its first bytes go out.
 
-ghost use Rattle.std.specs.Prelude.{◌≡◌, length};
+ghost use Rattle.std.specs.Prelude.{◌≡◌, ◌≤◌, length};
+
+use std::io;
+use std::io::Write;
+
+// Where a page goes: answers to standard output, all else to standard error.
+#[derive(Clone, Copy)]
+pub enum Stream {
+    Output,
+    Errors,
+}
 
 // Room for a line. The `ensures` gives only the length, which lending the array as a slice needs.
 pub fn line() -> [u8; 1024]
@@ -9,21 +19,61 @@ pub fn line() -> [u8; 1024]
     [0; 1024]
 }
 
+// Room for the page of help.
+pub fn help_room() -> [u8; 4096]
+    ensures { 4096 ≡ length result }
+{
+    [0; 4096]
+}
+
+fn write_to(rt: &HostRuntime, stream: Stream, text: &[u8]) -> io::Result<()> {
+    match stream {
+        Stream::Output => rt.stdout().write_all(text),
+        Stream::Errors => rt.stderr().write_all(text),
+    }
+}
+
+// Where the system's own words for what failed end: the number that stands behind them is not told.
+fn words_end(text: &[u8]) -> usize
+    ensures { result ≤ length text.now }
+{
+    for i in 0..text.len() {
+        if text[i] == 0 || text[i..].starts_with(b" (os error ") {
+            return i;
+        }
+    }
+    text.len()
+}
+
+// A line to standard error: what failed, a colon, and the system's own words for it. Where that cannot be written either, nothing is told.
+fn tell(rt: &HostRuntime, what: &[u8], error: &io::Error) {
+    let mut text = [0u8; 256];
+    let mut rest: &mut [u8] = &mut text;
+    let _formed = write!(rest, "{error}");
+    let end = words_end(&text);
+    let _what = write_to(rt, Stream::Errors, what);
+    let _colon = write_to(rt, Stream::Errors, b": ");
+    let _words = write_to(rt, Stream::Errors, &text[..end]);
+    let _end = write_to(rt, Stream::Errors, b"\n");
+}
+
 // The first bytes of a page; every line fits the page of `line`. Where they cannot be written that is told, and the answer is false.
-pub fn show(fd: i32, page: &[u8], n: usize) -> bool {
+pub fn show(rt: &HostRuntime, stream: Stream, page: &[u8], n: usize) -> bool {
     if page.len() < n {
         return false;
     }
-    if io::write_all(fd, &page[..n]) {
-        return true;
+    match write_to(rt, stream, &page[..n]) {
+        Ok(()) => true,
+        Err(error) => {
+            tell(rt, b"trim: cannot write", &error);
+            false
+        }
     }
-    os::fail(b"trim: cannot write");
-    false
 }
 
 // The first bytes of a page, to standard error, and the system's own words for what failed.
-pub fn fail(page: &[u8], n: usize) {
+pub fn fail(rt: &HostRuntime, page: &[u8], n: usize, error: &io::Error) {
     if n <= page.len() {
-        os::fail(&page[..n]);
+        tell(rt, &page[..n], error);
     }
 }

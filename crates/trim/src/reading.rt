@@ -1,7 +1,11 @@
 // A file: opened, and read whole. A problem file is handed to the job.
 ghost use Rattle.std.specs.Prelude.{◌≡◌, ◌+◌, ◌≤◌, length};
 
-use crate::{page, telling};
+use crate::page::Stream;
+use crate::{arg, page, telling};
+use std::fs::File;
+use std::io;
+use std::io::Read;
 use words::Order;
 
 // One byte more than a file may have, so that a longer one is refused and not cut.
@@ -11,15 +15,11 @@ fn room() -> [u8; 65537]
     [0; 65537]
 }
 
-// Reads once, and answers how many bytes that were; where it fails, one more than buf has.
-fn read_once(fd: i32, buf: &mut [u8]) -> usize
-    ensures { result ≤ length buf.old + 1 }
+// Room for a word: a longer one reads as an empty one.
+pub fn word_room() -> [u8; 65536]
+    ensures { 65536 ≡ length result }
 {
-    let got = libc::read(fd, buf);
-    if got < 0 {
-        return buf.len() + 1;
-    }
-    io::count(got, buf)
+    [0; 65536]
 }
 
 // More than buf has.
@@ -29,90 +29,95 @@ fn failed(buf: &[u8]) -> usize
     buf.len() + 1
 }
 
-// Reads until buf is full or the input ends, and answers how many bytes that were; where a read fails, one more than buf has.
-fn read_all(fd: i32, buf: &mut [u8]) -> usize {
-    let most = buf.len();
+// Reads until buf is full or the input ends, and answers how many bytes that were.
+fn read_all<R: Read>(from: &mut R, buf: &mut [u8]) -> io::Result<usize> {
     let mut done: usize = 0;
-    while done < most {
-        let n = read_once(fd, &mut buf[done..]);
-        if most - done < n {
-            return most + 1;
-        }
+    while done < buf.len() {
+        let n = from.read(&mut buf[done..])?;
         if n == 0 {
-            return done;
+            return Ok(done);
         }
         done += n;
     }
-    done
+    Ok(done)
 }
 
-fn tell_not_opened(name: &[u8]) {
+fn tell_not_opened(rt: &HostRuntime, name: &[u8], error: &io::Error) {
     let mut page = page::line();
     let end = usage::not_opened(name, &mut page);
-    page::fail(&page, end);
+    page::fail(rt, &page, end, error);
 }
 
-fn tell_not_read(name: &[u8]) {
+fn tell_not_read(rt: &HostRuntime, name: &[u8], error: &io::Error) {
     let mut page = page::line();
     let end = usage::not_read(name, &mut page);
-    page::fail(&page, end);
+    page::fail(rt, &page, end, error);
 }
 
 // Reads a file that is open. What fails is told, and then the answer is more than buf has.
-fn read_told(name: &[u8], fd: i32, buf: &mut [u8]) -> usize {
-    let n = read_all(fd, buf);
-    if buf.len() < n {
-        tell_not_read(name);
+fn read_told<R: Read>(rt: &HostRuntime, name: &[u8], from: &mut R, buf: &mut [u8]) -> usize {
+    match read_all(from, buf) {
+        Ok(n) => n,
+        Err(error) => {
+            tell_not_read(rt, name, &error);
+            failed(buf)
+        }
     }
-    n
+}
+
+// Opens the file of a name. The system's names are bytes and the library's are text: a name that is no text names no file here.
+fn open(rt: &HostRuntime, name: &[u8]) -> io::Result<File> {
+    match str::from_utf8(name) {
+        Ok(text) => File::open(rt, text),
+        Err(_) => Err(io::Error::from(io::ErrorKind::InvalidFilename)),
+    }
 }
 
 // Reads the file of a name, and answers how many bytes that were; a dash is standard input. What fails is told, and then the answer is more
 // than buf has.
-pub fn read_named(name: &[u8], buf: &mut [u8]) -> usize {
+pub fn read_named(rt: &HostRuntime, name: &[u8], buf: &mut [u8]) -> usize {
     if words::is_input(name) {
-        return read_told(name, libc::STDIN_FILENO, buf);
+        return read_told(rt, name, &mut rt.stdin(), buf);
     }
-    let fd = os::open_read(name);
-    if fd < 0 {
-        tell_not_opened(name);
-        return failed(buf);
+    match open(rt, name) {
+        Ok(mut file) => read_told(rt, name, &mut file, buf),
+        Err(error) => {
+            tell_not_opened(rt, name, &error);
+            failed(buf)
+        }
     }
-    let n = read_told(name, fd, buf);
-    libc::close(fd);
-    n
 }
 
-fn tell_circuit_alone(name: &[u8]) {
+fn tell_circuit_alone(rt: &HostRuntime, name: &[u8]) {
     let mut page = page::line();
     let end = usage::circuit_alone(name, &mut page);
-    page::show(libc::STDERR_FILENO, &page, end);
+    page::show(rt, Stream::Errors, &page, end);
 }
 
 // A circuit is no problem file.
-fn work_file(order: Order, name: &[u8], file: &[u8]) {
+fn work_file(rt: &HostRuntime, order: Order, name: &[u8], file: &[u8]) {
     if spelling::is_circuit(file) {
-        tell_circuit_alone(name);
+        tell_circuit_alone(rt, name);
         return;
     }
-    telling::answer(order, file);
+    telling::answer(rt, order, file);
 }
 
-fn work_on(order: Order, name: &[u8], file: &[u8], n: usize) {
+fn work_on(rt: &HostRuntime, order: Order, name: &[u8], file: &[u8], n: usize) {
     if n <= file.len() {
-        work_file(order, name, &file[..n]);
+        work_file(rt, order, name, &file[..n]);
     }
 }
 
-fn work_named(order: Order, name: &[u8]) {
+fn work_named(rt: &HostRuntime, order: Order, name: &[u8]) {
     let mut file = room();
-    let n = read_named(name, &mut file);
-    work_on(order, name, &file, n);
+    let n = read_named(rt, name, &mut file);
+    work_on(rt, order, name, &file, n);
 }
 
 // The job on the problem file that a word names.
-pub fn work(order: Order, i: usize) {
-    let mut buf = io::large_buffer();
-    let n = os::arg(i, &mut buf);
-    work_named(order, &buf[..n]);
+pub fn work(rt: &HostRuntime, order: Order, i: usize) {
+    let mut buf = word_room();
+    let n = arg(rt, i, &mut buf);
+    work_named(rt, order, &buf[..n]);
 }

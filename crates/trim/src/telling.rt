@@ -1,37 +1,37 @@
 // An order's job on a file, and what is told of it, line by line. Answers go to standard output, up to a line that cannot be written; a
 // refusal to standard error, after the sets that a listing found before it.
 use crate::page;
+use crate::page::Stream;
 use answers::{doing, lines as told_lines};
-use libc::{STDERR_FILENO, STDOUT_FILENO};
 use problem::Report;
 use told::Job;
 use words::Order;
 
-fn tell_head(order: Order, job: Job, file: &[u8], r: Report, lent: &[u8]) -> bool {
+fn tell_head(rt: &HostRuntime, order: Order, job: Job, file: &[u8], r: Report, lent: &[u8]) -> bool {
     let mut page = page::line();
     let end = told_lines::head_text(order.marks, job, file, r, lent, &mut page);
-    page::show(STDOUT_FILENO, &page, end)
+    page::show(rt, Stream::Output, &page, end)
 }
 
-fn tell_lemma(file: &[u8], position: usize) -> bool {
+fn tell_lemma(rt: &HostRuntime, file: &[u8], position: usize) -> bool {
     let mut page = page::line();
     let end = told_lemmas::lemma_line(file, position, &mut page);
-    page::show(STDOUT_FILENO, &page, end)
+    page::show(rt, Stream::Output, &page, end)
 }
 
 // The lemma at a position, if it is marked.
-fn tell_marked(file: &[u8], mark: u8, position: usize) -> bool {
+fn tell_marked(rt: &HostRuntime, file: &[u8], mark: u8, position: usize) -> bool {
     if mark != 1 {
         return true;
     }
-    tell_lemma(file, position)
+    tell_lemma(rt, file, position)
 }
 
 // The lemmas that are marked, by position.
-fn tell_lemmas(file: &[u8], marks: &[u8]) -> bool {
+fn tell_lemmas(rt: &HostRuntime, file: &[u8], marks: &[u8]) -> bool {
     let mut i: usize = 0;
     while i < marks.len() {
-        if !tell_marked(file, marks[i], i) {
+        if !tell_marked(rt, file, marks[i], i) {
             return false;
         }
         i += 1;
@@ -39,30 +39,30 @@ fn tell_lemmas(file: &[u8], marks: &[u8]) -> bool {
     true
 }
 
-fn tell_set_line(order: Order, job: Job, number: usize, set: &[u8]) -> bool {
+fn tell_set_line(rt: &HostRuntime, order: Order, job: Job, number: usize, set: &[u8]) -> bool {
     let mut page = page::line();
     let end = told_lines::set_text(order.marks, job, number, set, &mut page);
-    page::show(STDOUT_FILENO, &page, end)
+    page::show(rt, Stream::Output, &page, end)
 }
 
-fn tell_set(order: Order, job: Job, file: &[u8], number: usize, set: &[u8]) -> bool {
-    if !tell_set_line(order, job, number, set) {
+fn tell_set(rt: &HostRuntime, order: Order, job: Job, file: &[u8], number: usize, set: &[u8]) -> bool {
+    if !tell_set_line(rt, order, job, number, set) {
         return false;
     }
     if order.marks {
         return true;
     }
-    tell_lemmas(file, set)
+    tell_lemmas(rt, file, set)
 }
 
 // So many sets of k marks, one behind the other.
-fn tell_sets(order: Order, job: Job, file: &[u8], lent: &[u8], count: usize) {
+fn tell_sets(rt: &HostRuntime, order: Order, job: Job, file: &[u8], lent: &[u8], count: usize) {
     let k = told_lines::k_of(file);
     let mut start: usize = 0;
     let mut told: usize = 0;
     while told < count {
         let end = text::row_end(lent.len(), start, k);
-        if !tell_set(order, job, file, told + 1, &lent[start..end]) {
+        if !tell_set(rt, order, job, file, told + 1, &lent[start..end]) {
             return;
         }
         start = end;
@@ -70,37 +70,37 @@ fn tell_sets(order: Order, job: Job, file: &[u8], lent: &[u8], count: usize) {
     }
 }
 
-fn tell_error(order: Order, job: Job, file: &[u8], r: Report) {
+fn tell_error(rt: &HostRuntime, order: Order, job: Job, file: &[u8], r: Report) {
     let mut page = page::line();
     let end = told_lines::error_text(job, file, r, order.budget, order.space, &mut page);
-    page::show(STDERR_FILENO, &page, end);
+    page::show(rt, Stream::Errors, &page, end);
 }
 
 // The job on lent bytes, and what came of it.
-fn answer_on(order: Order, job: Job, file: &[u8], lent: &mut [u8]) {
+fn answer_on(rt: &HostRuntime, order: Order, job: Job, file: &[u8], lent: &mut [u8]) {
     let r = doing::done(job, file, order.budget, lent);
-    if tell_head(order, job, file, r, lent) {
-        tell_sets(order, job, file, lent, told_lines::sets_told(job, r));
+    if tell_head(rt, order, job, file, r, lent) {
+        tell_sets(rt, order, job, file, lent, told_lines::sets_told(job, r));
     }
-    tell_error(order, job, file, r);
+    tell_error(rt, order, job, file, r);
 }
 
 // As many bytes of the room are lent as the job takes; an order never takes more.
-fn answer_in(order: Order, file: &[u8], room: &mut [u8]) {
+fn answer_in(rt: &HostRuntime, order: Order, file: &[u8], room: &mut [u8]) {
     let ordered = order.job;
     let job = doing::job_told(ordered);
     let n = doing::lent_bytes(job, order.space);
     if n <= room.len() {
-        answer_on(order, job, file, &mut room[..n]);
+        answer_on(rt, order, job, file, &mut room[..n]);
     }
 }
 
-fn answer_lent(order: Order, file: &[u8], room: &mut [u8; 1048576]) {
-    answer_in(order, file, room);
+fn answer_lent(rt: &HostRuntime, order: Order, file: &[u8], room: &mut [u8; 1048576]) {
+    answer_in(rt, order, file, room);
 }
 
 // The job of an order that has no fault. The room is the largest space.
-pub fn answer(order: Order, file: &[u8]) {
+pub fn answer(rt: &HostRuntime, order: Order, file: &[u8]) {
     let mut room = [0u8; 1048576];
-    answer_lent(order, file, &mut room);
+    answer_lent(rt, order, file, &mut room);
 }
