@@ -3,7 +3,6 @@ use Prim.Native.Nat.{ℕ, zero, suc}
 use native.Mathlib.Omega.{arith}
 use mathlib.Core.Path.{◌≡◌, refl, sym, ap, ◌∙◌}
 use mathlib.Core.Logic.{◌⊎◌, inl, inr}
-use denote.Enum.Declared.{tag_of}
 use Rattle.meaning.specs.Clauses.{Literal, pos, neg, Clause}
 use Rattle.meaning.specs.Search.{Setting, with_literal}
 use Rattle.passes.specs.Sweep
@@ -11,7 +10,7 @@ use Rattle.passes.specs.Sweep.{met, failed, one, more, status, Next, satisfied, 
 use Rattle.passes.specs.declared.Tally.{Tally}
 use Rattle.passes.specs.declared.Status
 use Rattle.passes.specs.declared.Status.TheVariants.{Holds, Fails, One, More}
-use Rattle.passes.specs.contracts.Status.{the_type}
+use Rattle.format.specs.declared.Literal.{Literal as Held}
 use Rattle.passes.specs.Forms.{status_of, tallied, tally_at}
 
 -- a clause met by a pass, by its status
@@ -79,14 +78,12 @@ kind_four (suc (suc (suc (suc k)))) x v a b c d = refl
 
 -- a clause of a status that is not one forced place leaves the setting
 pub set_by_other : (s : Status.Status) (v : Setting)
-    → (tag_of the_type s ≡ 0) ⊎ ((tag_of the_type s ≡ 1) ⊎ (tag_of the_type s ≡ 3)) → v ≡ set_by (status_of s) v
+    → ((l : Held) → s ≡ One l → ⊥) → v ≡ set_by (status_of s) v
 unfolding set_by
 set_by_other Holds v h = refl
 set_by_other Fails v h = refl
 set_by_other (More l) v h = refl
-set_by_other (One l) v (inl e) = absurd (omega (arith, e))
-set_by_other (One l) v (inr (inl e)) = absurd (omega (arith, e))
-set_by_other (One l) v (inr (inr e)) = absurd (omega (arith, e))
+set_by_other (One l) v h = absurd (h l refl)
 
 -- one turn of a pass: a clause, its status, what was heard of it and the setting after it
 pub turn : (t r : Tally) (s : Status.Status) (v u : Setting) (c : Clause) → status_of s ≡ status v c

@@ -2,12 +2,10 @@
 use Prim.Native.Nat.{ℕ, ◌+◌, ◌-◌, ◌≤◌, ◌<◌}
 use native.Mathlib.Nat.{pos_of_ne-zero}
 use native.Mathlib.Omega.{arith}
-use mathlib.Core.Path.{◌≡◌, sym, ap, ◌∙◌, subst}
-use mathlib.Core.Logic.{◌⊎◌, inl, inr}
+use mathlib.Core.Path.{◌≡◌, refl, sym, ap, ◌∙◌, subst}
 use mathlib.Core.Bool.{Bool}
 use mathlib.Core.List.{List, ◌++◌, map}
 use lib.ListN.{length}
-use denote.Enum.Declared.{tag_of}
 use Rattle.meaning.specs.Clauses.{Literal, Clause, variable, negation}
 use Rattle.meaning.specs.Meaning.{at_marks}
 use Rattle.meaning.specs.File.{literals}
@@ -20,13 +18,12 @@ use Rattle.laws.specs.Questions.{denied_within}
 use Rattle.laws.specs.Setting.{length_with}
 use Rattle.laws.specs.SearchRight.{never_lost}
 use Rattle.format.specs.Section.{section}
+use Rattle.format.specs.declared.Literal.{Literal as Held}
 use Rattle.search.specs.declared.Parts.{Parts}
 use Rattle.search.specs.declared.Next.{Next}
 use Rattle.search.specs.declared.Next.TheVariants.{Satisfied, Try, Forced, Closed}
 use Rattle.search.specs.declared.Found.{Found}
 use Rattle.search.specs.declared.Found.TheVariants.{Yes, No, Spent}
-use Rattle.search.specs.contracts.Found
-use Rattle.search.specs.contracts.Next.{the_type}
 use Rattle.passes.specs.Sweep.{Pass, passed, try, sweep}
 use Rattle.search.specs.Forms.{pass_at, yes_or_no, bounded, later, ended_by}
 use Rattle.search.specs.Places.{Sound, parts_clauses}
@@ -68,33 +65,20 @@ module _ (file : List ℕ) (on : List Bool) (q : Parts) where
       ∙ sweep_append last deny (sweep lemmas (sweep first p)))
 
 -- a pass that forced no literal is ready
-pub turned_ready : (cs : List Clause) (v u : Setting) (n : Next)
-    → (tag_of the_type n ≡ 0) ⊎ ((tag_of the_type n ≡ 1) ⊎ (tag_of the_type n ≡ 3)) → Turned cs v (pass_at n u) → Ready cs v (pass_at n u)
+pub turned_ready : (cs : List Clause) (v u : Setting) (n : Next) → (n ≡ Forced → ⊥) → Turned cs v (pass_at n u) → Ready cs v (pass_at n u)
 turned_ready cs v u Satisfied h t = t
 turned_ready cs v u (Try l) h t = t
 turned_ready cs v u Closed h t = t
-turned_ready cs v u Forced (inl e) t = absurd (omega (arith, e))
-turned_ready cs v u Forced (inr (inl e)) t = absurd (omega (arith, e))
-turned_ready cs v u Forced (inr (inr e)) t = absurd (omega (arith, e))
+turned_ready cs v u Forced h t = absurd (h refl)
 
 -- where nothing is left to try, the search has ended
-pub ready_ended : (cs : List Clause) (v u : Setting) (left : ℕ) (n : Next)
-    → (tag_of the_type n ≡ 0) ⊎ ((tag_of the_type n ≡ 2) ⊎ (tag_of the_type n ≡ 3)) → Ready cs v (pass_at n u)
+pub ready_ended : (cs : List Clause) (v u : Setting) (left : ℕ) (n : Next) → ((l : Held) → n ≡ Try l → ⊥) → Ready cs v (pass_at n u)
     → ended_by n ≡ bounded left (answer (search_at cs v))
 unfolding answer yes_or_no
 ready_ended cs v u left Satisfied h r = sym (ap (λ (e : Ending). bounded left (answer e)) r ∙ under left _ (omega arith))
 ready_ended cs v u left Closed h r = sym (ap (λ (e : Ending). bounded left (answer e)) r ∙ under left _ (omega arith))
 ready_ended cs v u left Forced h r = absurd r
-ready_ended cs v u left (Try l) (inl e) r = absurd (omega (arith, e))
-ready_ended cs v u left (Try l) (inr (inl e)) r = absurd (omega (arith, e))
-ready_ended cs v u left (Try l) (inr (inr e)) r = absurd (omega (arith, e))
-
--- an answer that is no `No`
-pub not_no : (f : Found) → (tag_of Found.the_type f ≡ 0) ⊎ (tag_of Found.the_type f ≡ 2) → (d : ℕ) → f ≡ No d → ⊥
-not_no (Yes e) h d x = let z : ◌≡◌ {A = ℕ} 0 1 = cc in omega arith
-not_no Spent h d x = let z : ◌≡◌ {A = ℕ} 0 1 = cc in omega arith
-not_no (No e) (inl t) d x = omega (arith, t)
-not_no (No e) (inr t) d x = omega (arith, t)
+ready_ended cs v u left (Try l) h r = absurd (h l refl)
 
 -- Rule (d) at a setting that is ready, within a budget
 module _ (cs : List Clause) (within : Within 512 cs) (v u : Setting) (sized : length v ≡ 513) (l : Literal)

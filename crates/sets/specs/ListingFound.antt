@@ -36,6 +36,11 @@ ends_of (No u) (inl e) = omega (arith, e)
 ends_of (No u) (inr e) = omega (arith, e)
 ends_of Spent h = tt
 
+pub ends_not_no : (f : Found) → ((u : ℕ) → f ≡ No u → ⊥) → Ends f
+ends_not_no (Yes u) h = tt
+ends_not_no (No u) h = h u refl
+ends_not_no Spent h = tt
+
 unfoldable pub no_answer : Answer
 no_answer = record { sat = false; count = 0 }
 

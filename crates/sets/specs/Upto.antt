@@ -49,6 +49,7 @@ upto_here d X S z h =
 -- the sum up to a place
 pub sum_next : (l : List ℕ) (d : ℕ) → d < length l → sum (take (suc d) l) ≡ sum (take d l) + get_or l d 0
 unfolding sum
+sum_next [] d h = elim h [ ]
 sum_next (x ∷ l) zero h = omega arith
 sum_next (x ∷ l) (suc d) h =
     ap (λ (n : ℕ). x + n) (sum_next l d (omega arith)) ∙ sym (add_assoc x (sum (take d l)) (get_or l d 0))
@@ -63,6 +64,7 @@ sum_upto (x ∷ l) (suc d) = omega (arith, sum_upto l d)
 
 pub any_next : (l : List Bool) (d : ℕ) → d < length l → any (λ b. b) (take (suc d) l) ≡ (any (λ b. b) (take d l) || get_or l d false)
 unfolding any
+any_next [] d h = elim h [ ]
 any_next (b ∷ l) zero h = or-false b
 any_next (b ∷ l) (suc d) h =
     ap (λ (c : Bool). b || c) (any_next l d (omega arith)) ∙ sym (or_assoc b (any (λ c. c) (take d l)) (get_or l d false))
@@ -76,6 +78,7 @@ sum_all_taken l d e = ap sum (ap (λ (n : ℕ). take n l) (sym e) ∙ take-lengt
 -- how many are in, up to a place
 pub size_in : (l : List Bool) (d : ℕ) → d < length l → get_or l d false ≡ true → size (take (suc d) l) ≡ suc (size (take d l))
 unfolding size
+size_in [] d h e = elim h [ ]
 size_in (true ∷ l) zero h e = refl
 size_in (false ∷ l) zero h e = absurd (true≢false (sym e))
 size_in (true ∷ l) (suc d) h e = ap suc (size_in l d (omega arith) e)
@@ -83,6 +86,7 @@ size_in (false ∷ l) (suc d) h e = size_in l d (omega arith) e
 
 pub size_out : (l : List Bool) (d : ℕ) → d < length l → get_or l d false ≡ false → size (take (suc d) l) ≡ size (take d l)
 unfolding size
+size_out [] d h e = elim h [ ]
 size_out (true ∷ l) zero h e = absurd (true≢false e)
 size_out (false ∷ l) zero h e = refl
 size_out (true ∷ l) (suc d) h e = ap suc (size_out l d (omega arith) e)

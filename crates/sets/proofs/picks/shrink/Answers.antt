@@ -1,0 +1,10 @@
+use Prim.Native.Nat.{◌-◌}
+use native.Mathlib.Omega.{arith}
+use Rattle.sets.specs.Shrinking.{shrink_start, shrunk_end}
+use Rattle.sets.proofs.picks.shrink.Goals as goal
+
+pub loop-q-init : goal.loop-q-init
+loop-q-init c = (omega arith, shrink_start _ _ _ _)
+
+pub returns : goal.returns
+returns c = shrunk_end _ _ _ _ c.loop-q.q _ (omega arith) c.loop-q.invariant.1

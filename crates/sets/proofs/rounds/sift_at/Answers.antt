@@ -1,0 +1,87 @@
+-- `sets::rounds::sift_at` meets its contract: each return is one law of a sifting. Assumes nothing.
+use Prim.Native.Nat.{ℕ, ◌≤◌, ◌<◌}
+use native.Mathlib.Omega.{arith}
+use mathlib.Core.Path.{◌≡◌, subst, subst⁻¹}
+use lib.ListN.{length}
+use Rattle.sets.specs.Asks.{marks_at, asks}
+use Rattle.search.specs.declared.Marks.{Marks}
+use Rattle.sets.specs.Forms.{way_asks}
+use Rattle.sets.specs.SetLaws.{marks_long, has_on}
+use Rattle.sets.specs.Told.{told_by, told_as}
+use Rattle.sets.specs.Sifting.{sift_skip, sift_fall, sift_stay, sift_spent, next_done}
+use borrow.Author.Rules.{rules}
+use Rattle.sets.proofs.rounds.sift_at.Goals as goal
+
+long : (k : ℕ) (s : Marks) (d : ℕ) → length s.on ≡ 128 → k ≤ 128 → d < k → d < length (marks_at k s)
+long k s d e h below = subst⁻¹ (λ (n : ℕ). d < n) (marks_long k s e h) below
+
+pub returns-then-not-s-d : goal.returns-then-not-s-d
+returns-then-not-s-d c =
+    let a = c.args in
+    let pre = c.requires in
+    next_done (way_asks _ a.p a.s a.way) _ _ _ _ _
+    (sift_skip (way_asks _ a.p a.s a.way) _ _ _ _ (long a.p.k a.s a.d (search rules) pre.placed.k_in pre.d_lt_k) _ pre.done_upto
+    (has_on a.p.k a.s a.d _ pre.d_lt_k c.if-not-s-d.true))
+
+pub overflow_add-result : goal.overflow_add-result
+unfolding asks marks_at
+overflow_add-result c =
+    let pre = c.requires in
+    let told = told_by _ _ c.ask-a.ensures c.in-Yes.is in
+    omega (arith, told.fits, pre.left_bound, pre.done_upto.fits)
+
+pub overflow_add-result-in-No : goal.overflow_add-result-in-No
+unfolding asks marks_at
+overflow_add-result-in-No c =
+    let pre = c.requires in
+    let told = told_by _ _ c.ask-a.ensures c.in-No.is in
+    omega (arith, told.fits, pre.left_bound, pre.done_upto.fits)
+
+pub returns-in-Spent : goal.returns-in-Spent
+unfolding asks marks_at
+returns-in-Spent c =
+    let a = c.args in
+    let pre = c.requires in
+    let over =
+    told_as _ a.p a.s a.way a.d _ c.asking.ensures c.ask-a.ensures
+    c.in-Spent.is in
+    sift_spent (way_asks _ a.p a.s a.way) a.p.k a.left _ a.d
+    (long a.p.k a.s a.d (search rules) pre.placed.k_in pre.d_lt_k) a.done pre.done_upto
+    (has_on a.p.k a.s a.d _ pre.d_lt_k c.if-not-s-d.false)
+    (omega (arith, over, pre.done_upto.fits))
+
+pub returns-in-Yes : goal.returns-in-Yes
+unfolding asks marks_at
+returns-in-Yes c =
+    let a = c.args in
+    let pre = c.requires in
+    let told =
+    told_as _ a.p a.s a.way a.d _ c.asking.ensures
+    c.ask-a.ensures
+    c.in-Yes.is in
+    sift_fall (way_asks _ a.p a.s a.way) a.p.k a.left _ a.d
+    (long a.p.k a.s a.d (search (rules, c.well_formed.1.1.0)) pre.placed.k_in pre.d_lt_k) a.done pre.done_upto
+    c.less.result
+    _
+    c.less.ensures
+    (has_on a.p.k a.s a.d _ pre.d_lt_k c.if-not-s-d.false)
+    told.sat
+    told.count
+    (omega (arith, told.fits, pre.done_upto.fits))
+
+pub returns-in-No : goal.returns-in-No
+unfolding asks marks_at
+returns-in-No c =
+    let a = c.args in
+    let pre = c.requires in
+    let told =
+    told_as _ a.p a.s a.way a.d _ c.asking.ensures
+    c.ask-a.ensures
+    c.in-No.is in
+    sift_stay (way_asks _ a.p a.s a.way) a.p.k a.left _ a.d
+    (long a.p.k a.s a.d (search rules) pre.placed.k_in pre.d_lt_k) a.done pre.done_upto
+    _
+    (has_on a.p.k a.s a.d _ pre.d_lt_k c.if-not-s-d.false)
+    told.sat
+    told.count
+    (omega (arith, told.fits, pre.done_upto.fits))
