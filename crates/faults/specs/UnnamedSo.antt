@@ -1,5 +1,5 @@
 -- What is told of a variable that the class of a record does not name is so.
-use Rattle.std.specs.Prelude.{ℕ, ◌+◌, ◌-◌, ◌≤◌, ◌<◌, ◌≡◌, refl, ◌⊎◌, Bool, true, false, ◌&&◌, ◌||◌, leb}
+use Rattle.std.specs.Prelude.{ℕ, ◌+◌, ◌-◌, ◌≤◌, ◌<◌, ◌≡◌, refl, ◌⊎◌, Bool, true, false, ◌&&◌, leb}
 use Rattle.std.proofs.Common.{arith, sym, ap, ◌∙◌, inl, inr, true≢false, leb-true, leb-false, le-leb}
 use Rattle.meaning.specs.File.{Class, nothing, state, present, every, between, names, is_clause}
 use Rattle.laws.specs.Accepted.{or_false_left, or_false_right}

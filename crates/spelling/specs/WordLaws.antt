@@ -1,6 +1,6 @@
 -- Laws of words: the test says that they are the same; a byte more of two words, of digits, and of a value.
-use Rattle.std.specs.Prelude.{ℕ, zero, suc, ◌+◌, ◌*◌, ◌-◌, ◌≤◌, ◌<◌, ◌≡◌, refl, Bool, true, false, ◌&&◌, cond, List, [], ◌∷◌, length, take, eqb, ltb}
-use Rattle.std.proofs.Common.{sym, ◌∙◌, arith, add-one, drop-cons, eq-eqb, eqb-true, lt-ltb}
+use Rattle.std.specs.Prelude.{ℕ, suc, ◌+◌, ◌*◌, ◌-◌, ◌≤◌, ◌<◌, ◌≡◌, refl, Bool, true, false, ◌&&◌, cond, List, [], ◌∷◌, length, eqb}
+use Rattle.std.proofs.Common.{sym, ◌∙◌, arith, add-one, drop-cons, eq-eqb, eqb-true}
 use Rattle.std.proofs.Math.Path.{ap, ap₂}
 use Rattle.std.proofs.Math.Bool.{and-false}
 use Rattle.std.proofs.Math.ListN.{drop, get_or}

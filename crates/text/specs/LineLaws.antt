@@ -1,5 +1,5 @@
 -- Laws of the lines that are written: a byte more of a slice, a mark more of a row, a row more.
-use Rattle.std.specs.Prelude.{ℕ, zero, suc, ◌+◌, ◌-◌, ◌≤◌, ◌<◌, min, ◌≡◌, refl, Bool, true, false, length, take, drop, get_or, leb}
+use Rattle.std.specs.Prelude.{ℕ, suc, ◌+◌, ◌-◌, ◌≤◌, ◌<◌, min, ◌≡◌, refl, Bool, true, false, length, take, drop, get_or, leb}
 use Rattle.std.proofs.Math.Path.{sym, ap, ap₂}
 use Rattle.std.proofs.Common.{◌∙◌, arith, add-one, length-drop, drop_of_length-le, leb-true, leb-false, drop-cons, take_all, drop-drop}
 use mathlib.Core.List.{List, [], ◌∷◌, ◌++◌, map}

@@ -1,5 +1,5 @@
 -- What the listing program prints.
-use Rattle.std.specs.Prelude.{ℕ, zero, suc, ◌%◌, cond, List, [], ◌∷◌, ◌++◌, map, take, drop, eqb}
+use Rattle.std.specs.Prelude.{ℕ, zero, suc, ◌%◌, cond, List, [], ◌++◌, map, take, drop, eqb}
 use Rattle.meaning.specs.Calls.{Report, check_call, list_call}
 use Rattle.text.specs.Ascii.{ascii}
 use Rattle.text.specs.Numbers.{digit, decimal}

@@ -1,7 +1,7 @@
 -- Laws of a text on a page: parts follow each other, and one byte more.
-use Rattle.std.specs.Prelude.{ℕ, suc, ◌+◌, ◌≤◌, ◌<◌, min, ◌≡◌, refl, take, get_or}
+use Rattle.std.specs.Prelude.{ℕ, suc, ◌+◌, ◌≤◌, ◌<◌, ◌≡◌, take, get_or}
 use Rattle.std.proofs.Math.Path.{sym, ap}
-use Rattle.std.proofs.Common.{ap₂, subst, ◌∙◌, add-one, length-append, length-drop, length-take, drop_of_length-le, take_all, drop-cons}
+use Rattle.std.proofs.Common.{subst, ◌∙◌, add-one, length-append, length-drop, length-take, take_all, drop-cons}
 use mathlib.Core.List.{List, [], ◌∷◌, ◌++◌, append_assoc, append-nil}
 use native.Mathlib.Omega.{arith}
 use Rattle.std.proofs.Math.ListN.{length, drop, set}

@@ -1,5 +1,5 @@
 -- What is said of a command line's words, worked out.
-use Rattle.std.specs.Prelude.{ℕ, ◌≡◌, refl, false, List, [], ◌∷◌}
+use Rattle.std.specs.Prelude.{ℕ, ◌≡◌, refl, false, [], ◌∷◌}
 use Rattle.text.specs.Ascii.{ascii}
 use Rattle.words.specs.declared.order.Job.TheVariants.{One}
 use Rattle.words.specs.declared.order.Fault.{Fault}

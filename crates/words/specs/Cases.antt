@@ -3,7 +3,6 @@ use Rattle.std.specs.Prelude.{ℕ, ◌≡◌, refl, Bool, true, false, List, [],
 use Rattle.text.specs.Ascii.{ascii}
 use Rattle.spelling.specs.Words.{same, is_option}
 use Rattle.spelling.specs.Numbers.{is_digit, all_digits, is_number, value_after, value, up_to, number_of}
-use Rattle.spelling.specs.declared.number.Number.{Number}
 use Rattle.spelling.specs.declared.number.Number.TheVariants.{Value, Over, Not}
 use Rattle.words.specs.declared.order.Job.{Job}
 use Rattle.words.specs.declared.order.Job.TheVariants.{Awaited, Check, Largest, One, List as Listing, Problem, Help, Version}
