@@ -1,9 +1,9 @@
 -- The other side of a branch: Rounds of A without q, and its safety where it contains K.
-use Rattle.std.specs.Prelude.{ℕ, ◌+◌, ◌-◌, ◌≤◌, ◌<◌, ◌≡◌, refl, Bool, true, false, not, List}
+use Rattle.std.specs.Prelude.{ℕ, ◌+◌, ◌-◌, ◌≤◌, ◌<◌, ◌≡◌, refl, Bool, true, false, List}
 use Rattle.std.proofs.Math.Path.{sym, subst⁻¹}
 use Rattle.std.proofs.Common.{ap, ap₂, subst, ◌∙◌, true≢false, arith}
 use Rattle.meaning.specs.Meaning
-use Rattle.meaning.specs.Rules.{Question, Answer, Counted, Rows, safety, rounds, reduced, contains, exclude, node_if_safe, node_unless, rows_after, no_rows}
+use Rattle.meaning.specs.Rules.{Question, Answer, Counted, Rows, safety, reduced, contains, exclude, node_if_safe, node_unless, rows_after, no_rows}
 use Rattle.meaning.specs.Calls.{refusal}
 use Rattle.laws.specs.Basics.{true_of_not, false_of_not}
 use Rattle.laws.specs.Feed.{going, stopped, feed}
@@ -11,7 +11,7 @@ use Rattle.search.specs.declared.Marks.{Marks}
 use Rattle.sets.specs.Asks.{marks_at}
 use Rattle.sets.specs.declared.rounds.Kept.{Kept}
 use Rattle.sets.specs.declared.picks.Judged.{Judged}
-use Rattle.sets.specs.Forms.{KeptIs, KeptAll}
+use Rattle.sets.specs.Forms.{KeptIs}
 use Rattle.sets.specs.Keeping.{kept_over, kept_all, kept_spent, kept_in}
 use Rattle.sets.specs.Judging.{JudgedIs, JudgedFrom, judged_count, judged_over, judged_spent, judged_in, from_kept}
 use Rattle.rows.specs.ListingProgress.{feed_in, feed_out, feed_nothing, feed_in_twice, feed_out_twice}

@@ -1,11 +1,11 @@
 -- From a job on a placed problem to the call on its file.
-use Rattle.std.specs.Prelude.{ℕ, ◌≤◌, ◌<◌, ◌≡◌, refl, List, []}
+use Rattle.std.specs.Prelude.{ℕ, ◌≡◌, List, []}
 use Rattle.std.proofs.Math.Path.{sym, ap}
-use Rattle.std.proofs.Common.{ap₂, subst, ◌∙◌}
-use Rattle.std.proofs.Math.Option.{Option, some}
+use Rattle.std.proofs.Common.{◌∙◌}
+use Rattle.std.proofs.Math.Option.{some}
 use Rattle.meaning.specs.Meaning
-use Rattle.meaning.specs.File.{read, accepted, rejected}
-use Rattle.meaning.specs.Rules.{asked, largest, one, listing}
+use Rattle.meaning.specs.File.{read}
+use Rattle.meaning.specs.Rules.{largest, one, listing}
 use Rattle.meaning.specs.Calls
 use Rattle.meaning.specs.Calls.{Outcome, refusal, on_reading, with_room, listed, largest_job, one_job, list_job}
 use Rattle.format.specs.declared.Problem.{Problem}

@@ -1,13 +1,13 @@
 -- What a marking job leaves, by how its call ended.
-use Rattle.std.specs.Prelude.{ℕ, zero, suc, ◌≤◌, ◌<◌, ◌≡◌, Bool, true, false, length, ltb}
+use Rattle.std.specs.Prelude.{ℕ, ◌≤◌, ◌<◌, ◌≡◌, Bool, true, false, length, ltb}
 use Rattle.std.proofs.Math.Path.{refl, sym, ap, ap₂}
-use Rattle.std.proofs.Common.{subst, ◌∙◌}
+use Rattle.std.proofs.Common.{◌∙◌}
 use Rattle.std.proofs.Math.Bool.{cond}
 use Rattle.std.proofs.Math.Option.{Option, none, some}
 use mathlib.Core.List.{List, []}
 use borrow.Author.Tests.{le-ltb, lt-ltb}
 use Rattle.meaning.specs.Meaning
-use Rattle.meaning.specs.Rules.{Question, Answer, Counted, largest, one}
+use Rattle.meaning.specs.Rules.{Question, Answer, largest, one}
 use Rattle.meaning.specs.Calls
 use Rattle.meaning.specs.Calls.{Outcome, refusal, marked, within, with_room, written}
 use Rattle.problem.specs.declared.Report.{Report}
@@ -17,7 +17,7 @@ use Rattle.sets.specs.declared.picks.Judged.{Judged}
 use Rattle.jobs.specs.Outcome.{outcome_of}
 use Rattle.sets.specs.Asks.{marks_at}
 use Rattle.sets.specs.Forms.{KeptIf, KeptIs}
-use Rattle.sets.specs.Single.{found_of, SingleAll, SingleIf, SingleIs}
+use Rattle.sets.specs.Single.{found_of, SingleIf, SingleIs}
 
 -- spent, or the set that was found
 unfoldable pub left_by : ℕ → ℕ → Judged → List ℕ → Outcome

@@ -1,22 +1,14 @@
 -- The listing of a call: the largest set and its safety, the first node, and the report.
-use Rattle.std.specs.Prelude.{ℕ, suc, ◌+◌, ◌≤◌, ◌<◌, ◌≡◌, Bool, true, false, not, cond, List, [], replicate, ltb}
+use Rattle.std.specs.Prelude.{ℕ, suc, ◌≤◌, ◌<◌, ◌≡◌, Bool, true, false, cond, List, replicate, ltb}
 use Rattle.std.proofs.Math.Path.{refl, ap}
-use Rattle.std.proofs.Common.{sym, ap₂, subst, ◌∙◌, arith, lt-ltb, le-ltb}
+use Rattle.std.proofs.Common.{sym, ap₂, ◌∙◌, arith, lt-ltb, le-ltb}
 use Rattle.meaning.specs.Meaning
-use Rattle.meaning.specs.File.{Reading, read}
-use Rattle.meaning.specs.Rules.{Question, Answer, Rows, safety, size, counted_on, asked, rows_after, largest, largest_safety, node, list_if, listing}
-use Rattle.meaning.specs.Calls
-use Rattle.meaning.specs.Calls.{refusal, answered, listed, on_reading, list_job, list_call}
+use Rattle.meaning.specs.Rules.{Question, Answer, Rows, safety, size, counted_on, largest, largest_safety, node, list_if, listing}
+use Rattle.meaning.specs.Calls.{refusal, answered, listed}
 use Rattle.laws.specs.Basics.{true_of_not, false_of_not}
-use Rattle.laws.specs.Feed
-use Rattle.laws.specs.Feed.{going, stopped, feed, finish, feed_over, listed_safe, listed_unsafe}
-use Rattle.format.specs.declared.Problem.{Problem}
-use Rattle.format.specs.Section.{problem_at}
+use Rattle.laws.specs.Feed.{going, feed, finish, feed_over, listed_safe, listed_unsafe}
 use Rattle.problem.specs.declared.Report.{Report}
-use Rattle.problem.specs.declared.Checked.{Checked}
-use Rattle.problem.specs.declared.Checked.TheVariants.{Accepted, Refused}
-use Rattle.problem.specs.Answers.{reading_of_answer}
-use Rattle.sets.specs.Asks.{marks_at, asks}
+use Rattle.sets.specs.Asks.{marks_at}
 use Rattle.sets.specs.declared.picks.Judged.{Judged}
 use Rattle.rows.specs.declared.found.Progress.{Progress}
 use Rattle.rows.specs.declared.found.Progress.TheVariants.{Going, Spent, Full}

@@ -63,7 +63,7 @@ pub one_range : (most : ℕ) (v : Setting) (c : Clause) (l : Literal) → Clause
 one_range most v c l h e = in_clause (forced_unset (c ∷ []) v l (c, inl refl, subst (Means v c) e (status_means v c)))
   where
     in_clause : UnsetIn (c ∷ []) v l → variable l ≤ most
-    in_clause (d , mathlib.Core.Logic.inr x4 , i , u) = elim x4 [ ]
+    in_clause (d, mathlib.Core.Logic.inr x4, i, u) = elim x4 [ ]
     in_clause (d, inl same, i, u) = (literal_at (UpTo most) l c h (subst (λ (x : Clause). In l x) same i)).1
 
 -- the first of the literals that are left, by its value

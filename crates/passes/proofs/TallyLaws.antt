@@ -1,6 +1,5 @@
 -- A pass so far, held in two numbers: what one clause more makes of it.
 use Prim.Native.Nat.{ℕ, zero, suc}
-use native.Mathlib.Omega.{arith}
 use mathlib.Core.Path.{◌≡◌, refl, sym, ap, ◌∙◌}
 use mathlib.Core.Logic.{◌⊎◌, inl, inr}
 use Rattle.meaning.specs.Clauses.{Literal, pos, neg, Clause}

@@ -13,7 +13,6 @@ use Rattle.meaning.specs.File.{two_at, literal_at, literals}
 use Rattle.laws.specs.Within.{ClauseWithin}
 use Rattle.format.specs.Section.{next_record, clause_at, section}
 use Rattle.format.specs.Forms.{literal_of}
-use Rattle.passes.specs.Sweep as spec
 use Rattle.passes.specs.Sweep.{Pass, status, met_on, set_by, sweep}
 use Rattle.passes.specs.declared.Tally.{Tally}
 use Rattle.passes.specs.declared.Status.{Status}

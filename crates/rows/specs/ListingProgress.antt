@@ -1,11 +1,11 @@
 -- Where a listing stands, and what decisions or a row more make of it.
-use Rattle.std.specs.Prelude.{ℕ, zero, suc, ◌+◌, ◌*◌, ◌-◌, ◌≤◌, ◌<◌, ◌≡◌, refl, Bool, true, false, List, [], ◌∷◌, length, ltb}
-use Rattle.std.proofs.Common.{sym, subst, ◌∙◌, arith, add-zero, add_assoc, mul-suc}
+use Rattle.std.specs.Prelude.{ℕ, zero, suc, ◌+◌, ◌*◌, ◌≤◌, ◌<◌, ◌≡◌, refl, Bool, true, false, List, [], ◌∷◌, length, ltb}
+use Rattle.std.proofs.Common.{subst, ◌∙◌, arith, add-zero, add_assoc, mul-suc}
 use Rattle.std.proofs.Math.Path.{ap}
 use Rattle.std.proofs.Math.Bool.{cond}
 use borrow.Author.Tests.{lt-ltb, le-ltb, ltb-true, ltb-false}
 use Rattle.meaning.specs.Meaning
-use Rattle.meaning.specs.Rules.{Row, Rows, rows_after, no_rows}
+use Rattle.meaning.specs.Rules.{Rows, rows_after, no_rows}
 use Rattle.meaning.specs.Calls.{refusal, written}
 use Rattle.laws.specs.Feed
 use Rattle.laws.specs.Feed.{going, stopped, advance, feed, feed_rows, stop_or, feed_after, feed_none}

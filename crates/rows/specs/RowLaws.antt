@@ -1,6 +1,6 @@
 -- A row as it is written: one mark more, the whole row, and the row as a part of the lent bytes.
-use Rattle.std.specs.Prelude.{ℕ, zero, suc, ◌+◌, ◌-◌, ◌≤◌, ◌<◌, ◌≡◌, refl, Bool, length, take, get_or, set}
-use Rattle.std.proofs.Common.{sym, ap₂, ◌∙◌, arith, zero-add, add-one, length-drop, take-suc, drop-cons, drop-drop, take_all}
+use Rattle.std.specs.Prelude.{ℕ, suc, ◌+◌, ◌-◌, ◌≤◌, ◌<◌, ◌≡◌, refl, Bool, length, take, get_or, set}
+use Rattle.std.proofs.Common.{sym, ◌∙◌, arith, zero-add, add-one, length-drop, take-suc, drop-cons, drop-drop, take_all}
 use Rattle.std.proofs.Math.Path.{ap}
 use Rattle.std.proofs.Math.Bool.{false}
 use mathlib.Core.List.{List, [], ◌∷◌, ◌++◌, map, map-append, append-nil}

@@ -23,7 +23,7 @@ use Rattle.search.specs.declared.Parts.{Parts}
 use Rattle.search.specs.declared.Next.{Next}
 use Rattle.search.specs.declared.Next.TheVariants.{Satisfied, Try, Forced, Closed}
 use Rattle.search.specs.declared.Found.{Found}
-use Rattle.search.specs.declared.Found.TheVariants.{Yes, No, Spent}
+use Rattle.search.specs.declared.Found.TheVariants.{No, Spent}
 use Rattle.passes.specs.Sweep.{Pass, passed, try, sweep}
 use Rattle.search.specs.Forms.{pass_at, yes_or_no, bounded, later, ended_by}
 use Rattle.search.specs.Places.{Sound, parts_clauses}

@@ -20,7 +20,6 @@ use Rattle.laws.specs.Questions.{next_within, lemma_within, clauses_within}
 use Rattle.laws.specs.Wider.{wider}
 use Rattle.format.specs.declared.Problem.{Problem}
 use Rattle.format.specs.Section.{next_record, clause_at, section, Inside, problem_at, Placed}
-use Rattle.search.specs.declared.Question.{Question}
 use Rattle.search.specs.declared.Question.TheVariants.{Initiation, Step, Safety}
 use Rattle.search.specs.Engine.{search_at}
 use Rattle.passes.specs.Places.{Records, Denials}

@@ -6,7 +6,7 @@ use mathlib.Core.Path.{◌≡◌, refl, sym, ap, ◌∙◌, subst}
 use mathlib.Core.Logic.{◌⊎◌, inl, inr}
 use mathlib.Core.Bool.{Bool, true, false}
 use mathlib.Core.Option.{Option, none, some, none-ne-some}
-use mathlib.Core.List.{List, [], ◌∷◌, ◌++◌}
+use mathlib.Core.List.{List, [], ◌∷◌}
 use lib.ListN.{length}
 use Rattle.meaning.specs.Clauses.{Literal, Clause, variable, negation, any, all}
 use Rattle.meaning.specs.Demands.{In}
@@ -116,7 +116,7 @@ unfolding first_of or_else
 open_not_false v c l e = not_true_is_false (λ f. at_place f (open_unset (c ∷ []) v l (ap (λ (o : Option Literal). or_else o none) e)))
   where
     at_place : only_false v c ≡ true → UnsetIn (c ∷ []) v l → ⊥
-    at_place f (d , inr x4 , i , u) = elim x4 [ ]
+    at_place f (d, inr x4, i, u) = elim x4 [ ]
     at_place f (d, inl same, i, u) =
         none-ne-some false (sym u ∙ false_at v c l f (subst (λ (x : Clause). In l x) same i))
 

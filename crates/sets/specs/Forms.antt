@@ -1,8 +1,7 @@
 -- What the jobs' values stand for: a sifted set, a set that was kept, with the decisions used; and where the budget ends them.
-use Rattle.std.specs.Prelude.{ℕ, zero, suc, ◌+◌, ◌-◌, ◌≤◌, ◌<◌, ◌≡◌, Bool, true, false, not, ◌&&◌, cond, List, length, take, ltb}
+use Rattle.std.specs.Prelude.{ℕ, ◌≤◌, ◌<◌, ◌≡◌, Bool, true, false, not, ◌&&◌, cond, List, take, ltb}
 use Rattle.meaning.specs.Meaning
 use Rattle.meaning.specs.Clauses.{any}
-use Rattle.meaning.specs.Rules
 use Rattle.meaning.specs.Rules.{Answer, Counted, each, sum}
 use Rattle.format.specs.declared.Problem.{Problem}
 use Rattle.search.specs.declared.Marks.{Marks}

@@ -1,5 +1,5 @@
 -- A set with its safety asked, and the one set, one position at a time.
-use Rattle.std.specs.Prelude.{ℕ, zero, suc, ◌+◌, ◌-◌, ◌≤◌, ◌<◌, ◌≡◌, Bool, replicate, ltb}
+use Rattle.std.specs.Prelude.{ℕ, ◌+◌, ◌-◌, ◌≤◌, ◌<◌, ◌≡◌, Bool, replicate, ltb}
 use Rattle.std.proofs.Math.Path.{refl, sym, ap, ap₂, subst, subst⁻¹}
 use Rattle.std.proofs.Common.{◌∙◌, true≢false, arith, lt-ltb, le-ltb, ltb-true, ltb-false}
 use Rattle.std.proofs.Math.Bool.{true, false, not}
@@ -12,7 +12,7 @@ use Rattle.sets.specs.declared.rounds.Sifted.{Sifted}
 use Rattle.sets.specs.declared.rounds.Kept.{Kept}
 use Rattle.sets.specs.declared.picks.Judged.{Judged}
 use Rattle.sets.specs.Forms.{KeptAll, KeptIs, SiftedIs, sifted, costs}
-use Rattle.sets.specs.Keeping.{kept_spent, kept_in, kept_all, sifted_spent, sifted_in, plus_plus}
+use Rattle.sets.specs.Keeping.{kept_spent, kept_in, kept_all, sifted_spent, sifted_in}
 use Rattle.sets.specs.Told.{Told}
 
 module _ (ask : Meaning.Marks → Question → Answer) where

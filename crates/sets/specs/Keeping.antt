@@ -1,5 +1,5 @@
 -- A set that was kept, by whether the budget was used up; and the rounds of a set, one round at a time.
-use Rattle.std.specs.Prelude.{ℕ, zero, suc, ◌+◌, ◌-◌, ◌≤◌, ◌<◌, ◌≡◌, Bool, ltb}
+use Rattle.std.specs.Prelude.{ℕ, suc, ◌+◌, ◌-◌, ◌≤◌, ◌<◌, ◌≡◌, Bool, ltb}
 use Rattle.std.proofs.Math.Path.{refl, sym, ap, subst⁻¹}
 use Rattle.std.proofs.Common.{subst, subst₂, ◌∙◌, true≢false, arith, add_assoc, zero-add, lt-ltb, le-ltb, ltb-true, ltb-false}
 use Rattle.std.proofs.Math.Bool.{true, false}

@@ -1,18 +1,18 @@
 -- A question of each position, up to the first that is satisfiable: one position at a time.
 use Rattle.std.specs.Prelude.{ℕ, suc, ◌+◌, ◌-◌, ◌≤◌, ◌<◌, ◌≡◌, Bool, length, get_or}
 use Rattle.std.proofs.Math.Path.{refl, sym, ap}
-use Rattle.std.proofs.Common.{ap₂, subst, subst₂, ◌∙◌, arith, add-one, drop-cons}
+use Rattle.std.proofs.Common.{ap₂, subst, ◌∙◌, arith, add-one, drop-cons}
 use Rattle.std.proofs.Math.Bool.{true, false}
-use mathlib.Core.List.{List, [], ◌∷◌}
+use mathlib.Core.List.{[], ◌∷◌}
 use Rattle.std.proofs.Math.ListN.{drop}
 use Rattle.std.proofs.Math.Seq.{drop-length}
 use Rattle.meaning.specs.Meaning
 use Rattle.meaning.specs.Meaning.{has}
 use Rattle.meaning.specs.Rules.{Answer, first_yes, or_then, counted_on, unless}
 use Rattle.search.specs.declared.Found.{Found}
-use Rattle.search.specs.declared.Found.TheVariants.{Yes, No, Spent}
+use Rattle.search.specs.declared.Found.TheVariants.{No}
 use Rattle.search.specs.Forms.{bounded}
-use Rattle.sets.specs.Told.{Told, Tells, bounded_tells}
+use Rattle.sets.specs.Told.{Told, Tells}
 use Rattle.sets.specs.ListingFound.{after_of, Ends, if_in, no_answer, tells_bounded, ends_tells, after_tells, counted_twice, counted_none, goes_on}
 
 module _ (ask_at : ℕ → Answer) (S : Meaning.Marks) where

@@ -6,7 +6,7 @@ use Rattle.std.proofs.Math.Bool.{not}
 use Rattle.meaning.specs.Meaning
 use Rattle.meaning.specs.Rules
 use Rattle.meaning.specs.Rules.{Question, Answer, reduced, smaller_at}
-use Rattle.search.specs.declared.Found.TheVariants.{Yes, No, Spent}
+use Rattle.search.specs.declared.Found.TheVariants.{Spent}
 use Rattle.search.specs.Forms.{bounded}
 use Rattle.sets.specs.declared.picks.Judged.{Judged}
 use Rattle.sets.specs.declared.questions.Each.{Each}

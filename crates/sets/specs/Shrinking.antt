@@ -1,23 +1,20 @@
 -- The one set, one position at a time.
-use Prim.Native.Nat.{ℕ, zero, suc, ◌+◌, ◌-◌, ◌≤◌, ◌<◌}
-use Rattle.std.specs.Prelude.{◌≡◌, refl, Bool, not, cond, ltb}
+use Prim.Native.Nat.{ℕ, suc, ◌+◌, ◌-◌, ◌≤◌, ◌<◌}
+use Rattle.std.specs.Prelude.{◌≡◌, refl, Bool, not}
 use Rattle.std.proofs.Math.Path.{sym, ap, ap₂, subst⁻¹}
-use Rattle.std.proofs.Common.{subst, ◌∙◌, add-one, lt-ltb, le-ltb}
+use Rattle.std.proofs.Common.{subst, ◌∙◌, add-one}
 use Rattle.std.proofs.Math.Bool.{true, false}
-use Rattle.std.proofs.Math.Option.{Option, none, some}
 use native.Mathlib.Omega.{arith}
 use Rattle.meaning.specs.Meaning
 use Rattle.meaning.specs.Meaning.{has}
-use Rattle.meaning.specs.Rules
-use Rattle.meaning.specs.Rules.{Question, Answer, Counted, Single, plus, safety, reduced, reduced_safety, shrink, shrink_at, becomes, largest, largest_safety, counted_on, one, one_if}
+use Rattle.meaning.specs.Rules.{Question, Answer, Counted, plus, safety, reduced, shrink, shrink_at, becomes}
 use Rattle.search.specs.declared.Marks.{Marks}
 use Rattle.sets.specs.Asks.{marks_at}
 use Rattle.sets.specs.declared.rounds.Kept.{Kept}
 use Rattle.sets.specs.declared.picks.Judged.{Judged}
-use Rattle.sets.specs.Forms.{KeptAll, KeptIf, KeptIs}
-use Rattle.sets.specs.Keeping.{kept_over, kept_all, kept_spent, kept_in, plus_plus, plus_none}
+use Rattle.sets.specs.Forms.{KeptIs}
+use Rattle.sets.specs.Keeping.{kept_over, kept_all, plus_plus, plus_none}
 use Rattle.sets.specs.Judging.{judged_count, JudgedIs, judged_spent, judged_in, reduced_count, reduced_sat}
-use Rattle.laws.specs.Basics.{true_of_not, false_of_not}
 
 module _ (ask : Meaning.Marks → Question → Answer) where
   -- u decisions were used, and what is left to do is to shrink S from the position q on

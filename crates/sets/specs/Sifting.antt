@@ -1,5 +1,5 @@
 -- One position more of a sifting, over any answers.
-use Rattle.std.specs.Prelude.{ℕ, zero, suc, ◌+◌, ◌-◌, ◌≤◌, ◌<◌, ◌≡◌, refl, Bool, ◌&&◌, ◌||◌, List, length, take, ltb}
+use Rattle.std.specs.Prelude.{ℕ, suc, ◌+◌, ◌≤◌, ◌<◌, ◌≡◌, refl, Bool, ◌&&◌, ◌||◌, length, take}
 use Rattle.std.proofs.Math.Path.{sym, ap, ap₂, subst⁻¹}
 use Rattle.std.proofs.Common.{subst, ◌∙◌, arith, add-zero, add-one, lt-ltb, le-ltb}
 use Rattle.std.proofs.Math.Bool.{true, false, not, cond, or-true, or-false}
@@ -8,13 +8,13 @@ use Rattle.std.proofs.Math.Seq.{set-get_or}
 use Rattle.meaning.specs.Meaning
 use Rattle.meaning.specs.Meaning.{has}
 use Rattle.meaning.specs.Clauses.{any}
-use Rattle.meaning.specs.Rules.{Answer, each, sum, without}
+use Rattle.meaning.specs.Rules.{Answer, sum, without}
 use Rattle.laws.specs.Sets.{each_at, length_each}
 use Rattle.search.specs.declared.Marks.{Marks}
 use Rattle.sets.specs.Asks.{marks_at}
 use Rattle.sets.specs.declared.rounds.Sifted.{Sifted}
 use Rattle.sets.specs.Upto.{upto, upto_start, upto_end, upto_next, upto_here, sum_next, sum_upto, any_next, any_all_taken, sum_all_taken}
-use Rattle.sets.specs.Forms.{sifted, costs, falls, SiftedUpto, SiftedAll, SiftedIf, SiftedIs, NextIf, SiftedNext}
+use Rattle.sets.specs.Forms.{sifted, costs, falls, SiftedUpto, SiftedIf, SiftedIs, NextIf, SiftedNext}
 
 module _ (ask_at : ℕ → Answer) (k left : ℕ) (S : Meaning.Marks) where
   sifted_long : length (sifted ask_at S) ≡ length S

@@ -1,5 +1,5 @@
 -- Lists up to a place: what a loop over positions has done so far.
-use Rattle.std.specs.Prelude.{ℕ, zero, suc, ◌+◌, ◌-◌, ◌≤◌, ◌<◌, ◌≡◌, Bool, true, false, ◌||◌, get_or}
+use Rattle.std.specs.Prelude.{ℕ, zero, suc, ◌+◌, ◌≤◌, ◌<◌, ◌≡◌, Bool, true, false, ◌||◌, get_or}
 use Rattle.std.proofs.Math.Path.{refl, sym, ap, ap₂, subst}
 use Rattle.std.proofs.Common.{◌∙◌, true≢false, arith, add_assoc, add-zero, take-suc, drop-cons, length-take-le, get_or-append-add, get_or-drop}
 use Rattle.std.proofs.Math.Bool.{or-false, or_assoc}

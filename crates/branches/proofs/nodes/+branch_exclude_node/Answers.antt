@@ -1,5 +1,5 @@
 -- The cycle of calls {branch, exclude, node}: each return is one law of a listing.
-use Prim.Native.Nat.{ℕ, ◌+◌, ◌*◌, ◌-◌, ◌≤◌, ◌<◌}
+use Prim.Native.Nat.{ℕ, ◌+◌, ◌*◌, ◌-◌, ◌<◌}
 use native.Mathlib.Omega.{arith}
 use native.Mathlib.Nat.{pos_of_ne-zero}
 use mathlib.Core.Path.{◌≡◌, refl, ◌∙◌}

@@ -1,4 +1,4 @@
-use Prim.Native.Nat.{ℕ, ◌<◌, ◌-◌}
+use Prim.Native.Nat.{ℕ, ◌<◌}
 use native.Mathlib.Omega.{arith}
 use mathlib.Core.Path.{◌≡◌, refl, sym, ap₂, subst⁻¹, ◌∙◌}
 use mathlib.Core.Bool.{Bool, not, ◌&&◌}

@@ -1,5 +1,4 @@
 -- `scan` meets its contract. The loop's invariant: the status of the whole clause is that of the literals left, after what was seen.
-use Prim.Native.Nat.{◌-◌}
 use mathlib.Core.Path.{◌≡◌}
 use Rattle.meaning.specs.File.{literals}
 use Rattle.passes.specs.Sweep.{status, status_from}

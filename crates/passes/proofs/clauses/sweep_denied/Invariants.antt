@@ -1,5 +1,4 @@
 -- `sweep_denied` meets its contract. The loop's invariant: the whole pass comes to the pass over the literals left, from where it stands.
-use Prim.Native.Nat.{◌-◌}
 use mathlib.Core.Path.{◌≡◌}
 use mathlib.Core.List.{map}
 use Rattle.meaning.specs.Rules.{denied, next}

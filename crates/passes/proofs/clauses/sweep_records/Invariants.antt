@@ -1,5 +1,4 @@
 -- `sweep_records` meets its contract. The loop's invariant: the whole pass comes to the pass over the records left, from where it stands.
-use Prim.Native.Nat.{◌-◌}
 use mathlib.Core.Path.{◌≡◌}
 use Rattle.format.specs.Section.{section}
 use Rattle.passes.specs.Sweep.{sweep}

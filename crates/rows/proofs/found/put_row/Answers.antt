@@ -1,5 +1,5 @@
 -- `rows::found::put_row` meets its contract: the row doesn't fit, or is written as a part of the whole. Assumes nothing.
-use Prim.Native.Nat.{ℕ, ◌*◌, ◌-◌}
+use Prim.Native.Nat.{ℕ, ◌*◌}
 use native.Mathlib.Omega.{arith}
 use native.Mathlib.Nat.{suc-mul}
 use native.Mathlib.Numerals.{add-one}

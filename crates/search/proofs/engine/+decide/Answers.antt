@@ -41,8 +41,7 @@ decide-yes-requires t c =
     let v = setting_of c.args.start in
     let u = entries c.propagate-next.new.values in
     let l = literal_of c.in-Try.l in
-    let within = parts_within c.args.file.now c.args.on.now c.args.q c.requires.0 in
-    (
+    let within = parts_within c.args.file.now c.args.on.now c.args.q c.requires.0 in (
       fewer t v (with_literal u l) (setting_of c.with.result) c.decreases c.with.ensures c.in-Try.ensures.2,
       (c.requires.0, ap length c.with.ensures ∙ try_sized cs within v u c.requires.1 l c.in-Try.ensures l),
     )
@@ -116,8 +115,7 @@ decide-no-requires t c =
     let u = entries c.propagate-next.new.values in
     let l = literal_of c.in-Try.l in
     let within = parts_within c.args.file.now c.args.on.now c.args.q c.requires.0 in
-    let set_false = c.with-2.ensures ∙ ap (with_literal u) c.negated-other.ensures in
-    (
+    let set_false = c.with-2.ensures ∙ ap (with_literal u) c.negated-other.ensures in (
       fewer t v (with_literal u (negation l)) (setting_of c.with-2.result) c.decreases set_false c.in-Try.ensures.3,
       (c.requires.0, ap length set_false ∙ try_sized cs within v u c.requires.1 l c.in-Try.ensures (negation l)),
     )

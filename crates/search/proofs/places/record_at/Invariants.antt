@@ -1,5 +1,4 @@
 -- `record_at` meets its contract. The loop's invariant: what is left to walk ends where the whole walk ends.
-use Prim.Native.Nat.{◌-◌}
 use mathlib.Core.Path.{◌≡◌}
 use Rattle.format.specs.Section.{Inside}
 use Rattle.search.specs.Places.{place}

@@ -1,5 +1,5 @@
 use borrow.Author.Rules.{rules}
-use Prim.Native.Nat.{ℕ, suc, ◌+◌, ◌<◌, ◌-◌}
+use Prim.Native.Nat.{ℕ, suc, ◌+◌, ◌<◌}
 use native.Mathlib.Omega.{arith}
 use native.Mathlib.Numerals.{add-one}
 use mathlib.Core.Path.{◌≡◌, refl, sym, ap, ◌∙◌}
@@ -23,12 +23,12 @@ loop-d-preserved c =
     let below : d < length l = omega (arith, c.requires) in
     let on : size (take (suc d) l) ≡ size (take (d + 1) l) = ap (λ (n : ℕ). size (take n l)) (sym (add-one d)) in
     elim c.if-s-d.branch [
-      then-s-d w ↦ (
+      | then-s-d w ↦ (
         omega arith,
         w.n-is ∙ add-one _ ∙ ap suc inv.1 ∙ sym (size_in l d below w.if-s-d.true) ∙ on,
         omega (arith, w.n-is),
       )
-    | else-s-d w ↦ (omega arith, w.n-is ∙ inv.1 ∙ sym (size_out l d below w.if-s-d.false) ∙ on, omega (arith, w.n-is))
+      | else-s-d w ↦ (omega arith, w.n-is ∙ inv.1 ∙ sym (size_out l d below w.if-s-d.false) ∙ on, omega (arith, w.n-is))
     ]
 
 pub returns : goal.returns

@@ -1,5 +1,4 @@
 -- `sets::picks::judge` meets its contract: each return is one way the safety question ends. Assumes nothing.
-use Prim.Native.Nat.{◌-◌}
 use native.Mathlib.Omega.{arith}
 use mathlib.Core.Path.{refl}
 use Rattle.sets.specs.Asks.{marks_at, asks}

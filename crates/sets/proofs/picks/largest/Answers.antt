@@ -1,5 +1,4 @@
 -- `sets::picks::largest` meets its contract: the two parts of Largest set. Assumes nothing.
-use Prim.Native.Nat.{◌-◌}
 use mathlib.Core.Path.{refl}
 use mathlib.Core.Bool.{true}
 use Rattle.sets.specs.Asks.{asks}

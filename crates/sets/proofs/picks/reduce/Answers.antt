@@ -1,5 +1,4 @@
 -- `sets::picks::reduce` meets its contract. Assumes nothing.
-use Prim.Native.Nat.{◌-◌}
 use mathlib.Core.Path.{subst}
 use Rattle.meaning.specs.Meaning
 use Rattle.meaning.specs.Rules.{rounds, reduced}

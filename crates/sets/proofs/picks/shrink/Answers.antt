@@ -1,4 +1,3 @@
-use Prim.Native.Nat.{◌-◌}
 use native.Mathlib.Omega.{arith}
 use Rattle.sets.specs.Shrinking.{shrink_start, shrunk_end}
 use Rattle.sets.proofs.picks.shrink.Goals as goal

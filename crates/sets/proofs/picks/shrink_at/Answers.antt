@@ -1,5 +1,4 @@
 -- `sets::picks::shrink_at` meets its contract: each return is one law of the shrinking. Assumes nothing.
-use Prim.Native.Nat.{◌-◌}
 use Rattle.sets.specs.Asks.{asks}
 use Rattle.sets.specs.SetLaws.{has_on}
 use Rattle.sets.specs.Shrinking.{shrunk_done, shrink_skip, shrink_spent, shrink_kept, shrink_became}

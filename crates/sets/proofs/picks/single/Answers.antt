@@ -1,5 +1,4 @@
 -- `sets::picks::single` meets its contract: each return is one way the call ends. Assumes nothing.
-use Prim.Native.Nat.{◌-◌}
 use mathlib.Core.Path.{refl}
 use Rattle.sets.specs.Asks.{asks}
 use Rattle.sets.specs.Judging.{from_kept}

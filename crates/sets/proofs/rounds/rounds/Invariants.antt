@@ -1,5 +1,5 @@
 -- `sets::rounds::rounds` meets its contract: what is left to do is the rounds of the set at hand. Assumes nothing.
-use Prim.Native.Nat.{◌≤◌, ◌-◌}
+use Prim.Native.Nat.{◌≤◌}
 use Rattle.sets.specs.Asks.{marks_at, asks}
 use Rattle.sets.specs.Keeping.{RoundsLeft}
 use Rattle.sets.proofs.rounds.rounds.Given as goal

@@ -1,7 +1,7 @@
 -- `sets::rounds::sift_at` meets its contract: each return is one law of a sifting. Assumes nothing.
 use Prim.Native.Nat.{ℕ, ◌≤◌, ◌<◌}
 use native.Mathlib.Omega.{arith}
-use mathlib.Core.Path.{◌≡◌, subst, subst⁻¹}
+use mathlib.Core.Path.{◌≡◌, subst⁻¹}
 use lib.ListN.{length}
 use Rattle.sets.specs.Asks.{marks_at, asks}
 use Rattle.search.specs.declared.Marks.{Marks}
