@@ -1,18 +1,16 @@
 -- Literals of a circuit as numbers of a text: their range, and whether two have the same variable.
-use Rattle.std.specs.Prelude.{ℕ, zero, suc, ◌+◌, ◌-◌, ◌*◌, ◌/◌, ◌%◌, ◌≤◌, ◌<◌, ◌≡◌, refl, ◌⊎◌, Bool, true, false, not, ◌&&◌, cond, List, [], ◌∷◌, ◌++◌, length, get_or, ltb, leb, eqb}
+use Rattle.std.specs.Prelude.{ℕ, suc, ◌+◌, ◌-◌, ◌*◌, ◌/◌, ◌%◌, ◌≤◌, ◌<◌, ◌≡◌, refl, ◌⊎◌, Bool, true, false, not, ◌&&◌, cond, List, [], ◌∷◌, ◌++◌, length, get_or, ltb, leb, eqb}
 use Rattle.std.proofs.Common.{arith, sym, subst, ◌∙◌, inl, inr}
 use Rattle.std.proofs.Math.Path.{ap}
 use Rattle.std.proofs.Math.Seq.{slice, slice_empty}
 use borrow.Author.Tests.{ltb-true, ltb-false, le-leb, lt-leb, eq-eqb, ne_eqb, leb-true, leb-false, eqb-true, eqb-false}
 use Rattle.meaning.specs.Clauses.{all}
-use Rattle.meaning.specs.File.{between}
 use Rattle.meaning.specs.Lines.{is_digit, decimal, decimal_on}
 use Rattle.meaning.specs.Circuit.{var}
 use Rattle.meaning.specs.CircuitText.{used_right}
 use Rattle.laws.specs.Basics.{bool_cases, and_left, and_right, all_append}
 use Rattle.lines.specs.declared.number.Number.{Number}
 use Rattle.lines.specs.Numbers.{huge, capped, span, worth, Stands, digit_at, digit_of_digit, slice_more, decimal_more}
-use Rattle.lines.specs.Tails.{at_digit}
 use Rattle.lines.specs.Order.{order, order_less, order_same, order_more, order_cases}
 
 -- ---- what a capped value says

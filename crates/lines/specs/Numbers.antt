@@ -1,7 +1,7 @@
 -- Numbers in a text: their digits, their span, and their value as far as it is below a bound.
-use Rattle.std.specs.Prelude.{ℕ, zero, suc, ◌+◌, ◌-◌, ◌*◌, ◌≤◌, ◌<◌, ◌≡◌, ◌⊎◌, Bool, ◌&&◌, take, drop, leb}
+use Rattle.std.specs.Prelude.{ℕ, suc, ◌+◌, ◌-◌, ◌*◌, ◌≤◌, ◌<◌, ◌≡◌, ◌⊎◌, Bool, take, drop, leb}
 use native.Mathlib.Omega.{arith}
-use Rattle.std.proofs.Common.{add-one, sym, subst, ◌∙◌, inl, inr, true≢false, length-drop, drop_of_length-le, drop-cons, take-suc, length-take-le}
+use Rattle.std.proofs.Common.{add-one, sym, subst, ◌∙◌, inl, inr, drop_of_length-le, drop-cons, take-suc, length-take-le}
 use Rattle.std.proofs.Math.Path.{refl, ap}
 use Rattle.std.proofs.Math.Bool.{true, false, cond}
 use mathlib.Core.List.{List, [], ◌∷◌, ◌++◌, append_assoc, append-nil}
@@ -13,7 +13,7 @@ use borrow.Author.Tests.{lt-ltb, le-ltb, ltb-true, ltb-false, leb-true, leb-fals
 use Rattle.meaning.specs.Clauses.{all}
 use Rattle.meaning.specs.File.{between}
 use Rattle.meaning.specs.Lines.{is_digit, decimal, decimal_on}
-use Rattle.laws.specs.Basics.{bool_cases, and_left, and_right, and_both, all_append}
+use Rattle.laws.specs.Basics.{bool_cases, and_right, and_both, all_append}
 use Rattle.lines.specs.declared.number.Number.{Number}
 
 -- the digits that a text starts with

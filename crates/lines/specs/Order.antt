@@ -1,10 +1,9 @@
 -- Two numbers compared, and a sum of three compared with a fourth, digit by digit from the right.
-use Rattle.std.specs.Prelude.{ℕ, zero, suc, ◌+◌, ◌-◌, ◌*◌, ◌/◌, ◌%◌, ◌≤◌, ◌<◌, ◌≡◌, refl, ◌⊎◌, Bool, true, false, cond, List, length, ltb, eqb}
-use Rattle.std.proofs.Common.{arith, add-mul, mul_assoc, mul_comm, mul-le-mul_right, zero-mul, one-mul, div-add-mod', mod-lt, sym, ap, subst, ◌∙◌, inl, inr, lt-ltb, le-ltb, eq-eqb, ne_eqb, ltb-true, ltb-false, eqb-true}
+use Rattle.std.specs.Prelude.{ℕ, ◌+◌, ◌*◌, ◌/◌, ◌%◌, ◌≤◌, ◌<◌, ◌≡◌, refl, ◌⊎◌, Bool, true, false, cond, ltb, eqb}
+use Rattle.std.proofs.Common.{arith, add-mul, mul_assoc, mul-le-mul_right, zero-mul, one-mul, div-add-mod', mod-lt, sym, ap, ◌∙◌, inl, inr, lt-ltb, le-ltb, eq-eqb, ne_eqb, ltb-true, ltb-false, eqb-true}
 use Rattle.std.proofs.lemmas.Bool.{eqb-false}
-use Rattle.meaning.specs.Lines.{decimal}
 use Rattle.laws.specs.Basics.{bool_cases}
-use Rattle.lines.specs.Tails.{ten, ten_pos, tail, digit_from}
+use Rattle.lines.specs.Tails.{ten}
 
 -- 0 where a is less than b, 1 where they are equal, 2 where a is more
 unfoldable pub order : ℕ → ℕ → ℕ

@@ -1,11 +1,11 @@
 -- Lines of numbers, read from the front: what a number at a place and the byte after it say of the line that starts there.
-use Prim.Native.Nat.{ℕ, zero, suc, ◌+◌, ◌≤◌, ◌<◌}
-use Rattle.std.proofs.Common.{arith, add-one, sym, subst, ◌∙◌, true≢false, length-append, drop_of_length-le, drop-cons, drop-drop}
+use Prim.Native.Nat.{ℕ, suc, ◌+◌, ◌≤◌, ◌<◌}
+use Rattle.std.proofs.Common.{arith, add-one, sym, ◌∙◌, length-append, drop_of_length-le, drop-cons, drop-drop}
 use Rattle.std.specs.Prelude.{◌≡◌, refl, Bool, true, false, not, ◌&&◌, cond, drop, eqb}
 use Rattle.std.proofs.Math.Path.{ap}
 use mathlib.Core.List.{List, [], ◌∷◌, ◌++◌, append-nil}
 use Rattle.std.proofs.Math.ListN.{length, get_or}
-use Rattle.std.proofs.Math.Seq.{slice, length-slice, drop-append_seam}
+use Rattle.std.proofs.Math.Seq.{length-slice}
 use Rattle.std.proofs.Math.Dec.{ltb}
 use borrow.Author.Tests.{lt-ltb, le-ltb, eq-eqb, ne_eqb, leb-true}
 use Rattle.meaning.specs.Clauses.{all}

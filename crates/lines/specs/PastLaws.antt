@@ -1,9 +1,9 @@
 -- Where the line after one of so many numbers starts, number by number.
-use Rattle.std.specs.Prelude.{ℕ, zero, suc, ◌+◌, ◌-◌, ◌≤◌, ◌<◌, ◌≡◌, refl, ◌⊎◌, Bool, true, false, not, ◌&&◌, cond, List, [], ◌∷◌, ◌++◌, length, get_or, drop, eqb}
-use Rattle.std.proofs.Common.{arith, sym, ap, subst, ◌∙◌, inl, inr, true≢false, eq-eqb, ne_eqb, eqb-true}
+use Rattle.std.specs.Prelude.{ℕ, zero, suc, ◌+◌, ◌-◌, ◌≤◌, ◌<◌, ◌≡◌, refl, ◌⊎◌, Bool, true, false, ◌&&◌, List, [], ◌∷◌, length, get_or, drop, eqb}
+use Rattle.std.proofs.Common.{arith, sym, ap, ◌∙◌, inl, inr, eq-eqb, ne_eqb, eqb-true}
 use Rattle.std.proofs.lemmas.Bool.{eqb-false}
 use Rattle.meaning.specs.Clauses.{all}
-use Rattle.meaning.specs.Lines.{newline, space, line_at, ended, next_line, words, is_empty, is_digit, is_number, of_numbers}
+use Rattle.meaning.specs.Lines.{newline, space, line_at, ended, words, is_empty, is_number, of_numbers}
 use Rattle.laws.specs.Basics.{bool_cases, nonzero}
 use Rattle.lines.specs.declared.number.Number.{Number}
 use Rattle.lines.specs.Numbers.{digits_of, span, Stands}

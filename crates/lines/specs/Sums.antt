@@ -1,14 +1,13 @@
 -- Three numbers of a text and a fourth, as far as so many digits from the right are read.
-use Rattle.std.specs.Prelude.{ℕ, zero, suc, ◌+◌, ◌-◌, ◌*◌, ◌/◌, ◌%◌, ◌≤◌, ◌<◌, ◌≡◌, refl, true, List, length, get_or, take}
+use Rattle.std.specs.Prelude.{ℕ, suc, ◌+◌, ◌-◌, ◌*◌, ◌/◌, ◌%◌, ◌≤◌, ◌<◌, ◌≡◌, true, List, length, get_or, take}
 use native.Mathlib.Omega.{arith}
 use Rattle.std.proofs.Math.Numerals.{add-one}
-use Rattle.std.proofs.Common.{add-mul, sym, ap, subst, ◌∙◌, get_or-drop, get_or-take, length-take-le, lt-ltb, le-ltb}
-use Rattle.std.proofs.Math.Seq.{slice, length-slice}
-use Rattle.meaning.specs.Clauses.{all}
-use Rattle.meaning.specs.Lines.{is_digit, decimal}
+use Rattle.std.proofs.Common.{add-mul, sym, ap, subst, ◌∙◌, get_or-drop, get_or-take, lt-ltb, le-ltb}
+use Rattle.std.proofs.Math.Seq.{length-slice}
+use Rattle.meaning.specs.Lines.{is_digit}
 use Rattle.lines.specs.declared.number.Number.{Number}
 use Rattle.lines.specs.Numbers.{span, worth, Stands, digit_at, digit_of_digit}
-use Rattle.lines.specs.Tails.{ten, tail, tail_none, tail_all, tail_more, digit_from, from_small, at_digit, digit_small}
+use Rattle.lines.specs.Tails.{ten, tail, tail_none, tail_all, tail_more, digit_from, from_small, at_digit}
 use Rattle.lines.specs.Order.{order, Compared, compared_none, compared_more, compared_over, compared_all, next_seen}
 
 -- how many digits a number has

@@ -1,9 +1,9 @@
 -- Digits taken from the right: what the last so many digits of a number are worth.
 use Prim.Native.Nat.{ℕ, zero, suc, ◌+◌, ◌-◌, ◌*◌, ◌≤◌, ◌<◌}
 use native.Mathlib.Omega.{arith}
-use Rattle.std.proofs.Common.{add-mul, mul_assoc, mul_comm, mul-le-mul_right, sym, subst, ◌∙◌, drop-cons}
+use Rattle.std.proofs.Common.{add-mul, mul_assoc, mul_comm, mul-le-mul_right, ◌∙◌, drop-cons}
 use Rattle.std.proofs.Math.Nat.{zero-mul, lt_of_lt_of_le}
-use Rattle.std.specs.Prelude.{◌≡◌, Bool, ◌&&◌, List, [], ◌∷◌, get_or, leb}
+use Rattle.std.specs.Prelude.{◌≡◌, Bool, List, [], ◌∷◌, get_or, leb}
 use Rattle.std.proofs.Math.Path.{refl, ap}
 use Rattle.std.proofs.Math.Bool.{true, false, cond}
 use Rattle.std.proofs.Math.ListN.{length, drop, length-drop}

@@ -3,7 +3,7 @@ use Rattle.std.specs.Prelude.{ℕ, zero, suc, ◌+◌, ◌≤◌, ◌≡◌, ref
 use native.Mathlib.Omega.{arith}
 use Rattle.std.proofs.Common.{ap, inl}
 use Rattle.std.proofs.Math.Logic.{inr}
-use Rattle.meaning.specs.File.{Reader, Span, past, at_start, span_at, kind_at, kind_row, kind_table, no_kind, row_at, body_at, two_at, is_clause, one_if_clause, of_kind, clauses_most}
+use Rattle.meaning.specs.File.{Reader, Span, past, at_start, span_at, kind_at, kind_row, kind_table, no_kind, row_at, body_at, two_at, is_clause, one_if_clause, clauses_most}
 use Rattle.laws.specs.Accepted.{Kept}
 use Rattle.problem.specs.declared.sections.Sections.{Sections}
 use Rattle.problem.specs.Records.{Sane, section_past, sections_past, no_section, no_sections}

@@ -1,6 +1,6 @@
 -- A file read record by record: what is known between two records, and what the answer is where reading stops.
 use Prim.Native.Nat.{ℕ, zero, suc, ◌+◌, ◌≤◌, ◌<◌}
-use Rattle.std.proofs.Common.{arith, subst, ◌∙◌, inl, inr}
+use Rattle.std.proofs.Common.{arith, ◌∙◌, inl, inr}
 use Rattle.std.specs.Prelude.{◌≡◌, Bool, cond, eqb}
 use Rattle.std.proofs.Math.Path.{refl, sym, ap, subst⁻¹}
 use Rattle.std.proofs.Math.Bool.{true, false}

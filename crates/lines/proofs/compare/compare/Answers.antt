@@ -1,5 +1,4 @@
-use Prim.Native.Nat.{◌-◌}
-use mathlib.Core.Path.{subst, subst⁻¹}
+use mathlib.Core.Path.{subst⁻¹}
 use native.Mathlib.Omega.{arith}
 use Rattle.lines.specs.Sums.{none_read, read_more, over_is, seen_is}
 use Rattle.lines.specs.Order.{Compared}

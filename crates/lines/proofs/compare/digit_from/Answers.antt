@@ -1,5 +1,5 @@
-use Prim.Native.Nat.{ℕ, ◌-◌, ◌≤◌}
-use mathlib.Core.Path.{sym, subst, subst⁻¹, ◌∙◌}
+use Prim.Native.Nat.{ℕ, ◌≤◌}
+use mathlib.Core.Path.{sym, subst⁻¹, ◌∙◌}
 use native.Mathlib.Omega.{arith}
 use Rattle.lines.specs.Tails.{from_small}
 use Rattle.lines.specs.Sums.{from_past, from_at, digit_count}

@@ -1,4 +1,3 @@
-use Prim.Native.Nat.{◌-◌}
 use mathlib.Core.Path.{sym, ◌∙◌}
 use native.Mathlib.Omega.{arith}
 use Rattle.lines.specs.PastLaws.{past_cut, past_empty, past_last, past_not_last, past_space, past_no_space}

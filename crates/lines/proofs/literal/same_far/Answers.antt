@@ -1,5 +1,4 @@
 -- `lines::literal::same_far` meets its contract: equal, or one more than an even one. Assumes nothing.
-use Prim.Native.Nat.{◌-◌}
 use mathlib.Core.Path.{sym, ◌∙◌}
 use native.Mathlib.Omega.{arith}
 use Rattle.lines.specs.Literals.{nothing_stands, far_equal, far_even, far_odd, far_even_other}

@@ -1,5 +1,4 @@
 -- `lines::literal::same_variable` meets its contract: by the values where they fit a word. Assumes nothing.
-use Prim.Native.Nat.{◌-◌}
 use mathlib.Core.Path.{sym, ◌∙◌}
 use native.Mathlib.Omega.{arith}
 use Rattle.lines.specs.Literals.{huge_some, same_quick, same_not, same_sym}

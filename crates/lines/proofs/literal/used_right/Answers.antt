@@ -1,5 +1,4 @@
 -- `lines::literal::used_right` meets its contract: by the values where they fit a word, else digit by digit. Assumes nothing.
-use Prim.Native.Nat.{◌-◌}
 use native.Mathlib.Omega.{arith}
 use Rattle.lines.specs.Literals.{nothing_stands, used_quick, used_far}
 use Rattle.lines.proofs.literal.used_right.Goals as goal

@@ -1,7 +1,6 @@
 -- `past` is what the definition knows after a record.
 use mathlib.Core.Path.{◌∙◌}
 use native.Mathlib.Omega.{arith}
-use lib.Dec.{eqb}
 use borrow.Author.Tests.{eq-eqb, ne_eqb}
 use Rattle.problem.specs.Steps.{headed_small, ends_inside, counts_inside, past_here}
 use Rattle.problem.proofs.rules.past.Goals as goal
