@@ -16,7 +16,7 @@ fn main() {
     println!("cargo:rustc-link-lib=static={name}");
 }
 
-/// Folder and name of the archive: the toolchain's own on x86-64, else the same proved module compiled for this processor.
+/// Folder and name of the archive: the toolchain's own on x86-64, the only processor that it compiles for; else the one that would be for this one.
 fn library() -> (&'static str, &'static str) {
     let processor = std::env::var("CARGO_CFG_TARGET_ARCH").expect("cargo names the processor");
     if processor == "x86_64" {

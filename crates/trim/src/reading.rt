@@ -1,5 +1,5 @@
 // A file: opened, and read whole. A problem file is handed to the job.
-ghost use Rattle.std.specs.Prelude.{◌≡◌, ◌+◌, ◌≤◌, length};
+ghost use Rattle.std.specs.Prelude.{◌≡◌, ◌+◌, ◌≤◌, length, IfOk};
 
 use crate::page::Stream;
 use crate::{arg, page, telling};
@@ -29,11 +29,18 @@ fn failed(buf: &[u8]) -> usize
     buf.len() + 1
 }
 
+// Reads once, and answers how many bytes that were.
+fn read_once<R: Read>(from: &mut R, buf: &mut [u8]) -> io::Result<usize>
+    ensures { IfOk result (λ n. n ≤ length buf.new) }
+{
+    from.read(buf)
+}
+
 // Reads until buf is full or the input ends, and answers how many bytes that were.
 fn read_all<R: Read>(from: &mut R, buf: &mut [u8]) -> io::Result<usize> {
     let mut done: usize = 0;
     while done < buf.len() {
-        let n = from.read(&mut buf[done..])?;
+        let n = read_once(from, &mut buf[done..])?;
         if n == 0 {
             return Ok(done);
         }
