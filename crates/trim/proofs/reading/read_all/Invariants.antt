@@ -1,0 +1,9 @@
+-- `read_all` never has more than buf.
+use Rattle.std.proofs.Common.{◌-◌, ◌≤◌, length}
+use Rattle.trim.proofs.reading.read_all.Given as goal
+
+abbrev pub invariant-loop-done : goal.invariant-loop-done
+invariant-loop-done g l = l.done ≤ length l.buf
+
+abbrev pub decreases-loop-done : goal.decreases-loop-done
+decreases-loop-done g l = length l.buf - l.done
