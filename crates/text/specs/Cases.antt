@@ -7,7 +7,7 @@ use Rattle.text.specs.Filled.{filled}
 use Rattle.text.specs.Listing.{first_line, mark_digit, row_lines, listed, refused, listing_text}
 
 -- a listing's report
-report : ℕ → ℕ → ℕ → ℕ → Report
+unfoldable pub report : ℕ → ℕ → ℕ → ℕ → Report
 report number place decisions rows = record { number = number; place = place; decisions = decisions; rows = rows; n = 0; m = 0; k = 0 }
 
 -- B: rows 1 0 0 and 0 1 1, 3 decisions.
@@ -20,11 +20,6 @@ case_b = refl
 case_h : listing_text (report 11 0 1 0) 0 [] ≡ ascii "none 0 1\n"
 unfolding report listing_text listed first_line decimal digits digit row_lines
 case_h = refl
-
--- I: one row of no bytes, 0 decisions. A row is an empty line
-case_i : listing_text (report 0 0 0 1) 0 [] ≡ ascii "complete 1 0\n\n"
-unfolding report listing_text listed first_line decimal digits digit row_lines mark_digit
-case_i = refl
 
 -- L without its last byte: refusal 2 at 42.
 case_l : listing_text (report 2 42 0 0) 0 [] ≡ ascii "bad 2 42\n"

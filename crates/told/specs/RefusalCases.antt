@@ -7,11 +7,11 @@ use Rattle.format.specs.Section.{next_record}
 use Rattle.text.specs.Ascii.{ascii}
 use Rattle.text.specs.Numbers.{digit, digits, decimal}
 use Rattle.text.specs.Filled.{filled}
-use Rattle.told.specs.declared.answers.Job.TheVariants.{Check, One, List as Listing}
+use Rattle.told.specs.declared.answers.Job.TheVariants.{Check, One}
 use Rattle.faults.specs.Places.{kind_there, past, reaches, unless_reached, walk, start_around, around}
 use Rattle.faults.specs.Faults.{cut, unnamed, literal_fault, number_fault, fault_of}
 use Rattle.fault_texts.specs.FaultTexts.{fault_text}
-use Rattle.told.specs.Refusals.{head_text, clause_place, where_text, larger, spent_text, kept_text, reason_text, refusal_line}
+use Rattle.told.specs.Refusals.{head_text, clause_place, where_text, larger, spent_text, reason_text, refusal_line}
 
 -- the file of docs/FORMAT.md, 46 bytes: counts, an Init clause, two Tr clauses, a Bad clause, a lemma, the end
 example : List ℕ
@@ -25,7 +25,7 @@ example =
     0 ∷ 0 ∷ 6 ∷ 0 ∷ []
 
 -- a refusal's report: its number, place, decisions and rows
-report : ℕ → ℕ → ℕ → ℕ → Report
+unfoldable pub report : ℕ → ℕ → ℕ → ℕ → Report
 report number place decisions rows = record { number = number; place = place; decisions = decisions; rows = rows; n = 0; m = 0; k = 0 }
 
 -- what the checking job's refusal of a file says
@@ -113,16 +113,6 @@ case_lent : refusal_line One [] (report 9 0 0 0) 1000 0
 unfolding report refusal_line head_text where_text reason_text filled decimal digits digit
 case_lent = refl
 
-case_spent : refusal_line One [] (report 10 0 1000 0) 1000 0
-    ≡ ascii "refusal 10: the budget was used up (decisions: 1000); try a larger one, for instance 10000\n"
-unfolding report refusal_line head_text where_text reason_text filled decimal digits digit spent_text larger kept_text
-case_spent = refl
-
-case_spent_listing : refusal_line Listing [] (report 10 0 1000 2) 1000 0
-    ≡ ascii "refusal 10: the budget was used up (decisions: 1000); try a larger one, for instance 10000; sets kept, the first of the list: 2\n"
-unfolding report refusal_line head_text where_text reason_text filled decimal digits digit spent_text larger kept_text
-case_spent_listing = refl
-
 case_larger_none : larger 0 ≡ 1000000
 unfolding larger
 case_larger_none = refl
@@ -139,8 +129,3 @@ case_none : refusal_line One [] (report 11 0 7 0) 1000 0
     ≡ ascii "refusal 11: no subset of these candidates is safe and inductive (decisions: 7). This speaks of these candidates only: it does not say that the loader is unsafe\n"
 unfolding report refusal_line head_text where_text reason_text filled decimal digits digit
 case_none = refl
-
-case_room : refusal_line Listing [] (report 12 0 3 1) 1000 5
-    ≡ ascii "refusal 12: the next set does not fit the space (bytes: 5); try a larger space; sets kept, the first of the list: 1\n"
-unfolding report refusal_line head_text where_text reason_text filled decimal digits digit kept_text
-case_room = refl

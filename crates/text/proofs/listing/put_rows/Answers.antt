@@ -2,7 +2,8 @@ use Prim.Native.Nat.{◌≤◌}
 use mathlib.Core.Path.{◌∙◌}
 use native.Mathlib.Omega.{arith}
 use lib.ListN.{length}
-use Rattle.text.specs.LineLaws.{row_more, rows_done}
+use Rattle.text.specs.LineLaws.{rows_done}
+use Rattle.text.proofs.Rows.{row_more}
 use Rattle.text.proofs.listing.put_rows.Goals as goal
 
 pub loop-done-preserved : goal.loop-done-preserved
