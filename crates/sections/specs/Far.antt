@@ -1,8 +1,8 @@
 -- How many bytes lines take: a line of so many numbers takes two for each at least.
-use Rattle.std.specs.Prelude.{ℕ, zero, suc, ◌+◌, ◌*◌, ◌≤◌, ◌≡◌, refl, Bool, true, false, not, ◌&&◌, cond, List, [], ◌∷◌, length, eqb}
-use Rattle.std.proofs.Common.{arith, mul-suc, mul-zero, sym, ap, ◌∙◌, true≢false}
+use Rattle.std.specs.Prelude.{ℕ, zero, suc, ◌+◌, ◌*◌, ◌≤◌, ◌≡◌, refl, Bool, true, false, cond, List, [], ◌∷◌, length, eqb}
+use Rattle.std.proofs.Common.{arith, mul-suc, mul-zero, sym, true≢false}
 use Rattle.meaning.specs.Clauses.{all}
-use Rattle.meaning.specs.Lines.{space, line_at, next_line, with_first, words, is_empty, is_digit, is_number}
+use Rattle.meaning.specs.Lines.{space, line_at, next_line, with_first, words, is_empty, is_number}
 use Rattle.laws.specs.Basics.{and_left, and_right}
 use Rattle.sections.specs.Lists.{line_after}
 use Rattle.sections.specs.SectionLines.{Row, Rows}

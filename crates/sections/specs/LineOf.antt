@@ -16,7 +16,7 @@ use Rattle.lines.specs.Past.{line_past}
 use Rattle.sections.specs.declared.line.Form.{Form}
 use Rattle.lines.specs.Order.{order, order_cases, order_less, order_same, order_more}
 use Rattle.lines.specs.Literals.{nothing_worth}
-use Rattle.sections.specs.Rows.{form_of, numbers_after, Rest, value_small, value_least}
+use Rattle.sections.specs.Rows.{form_of, numbers_after, value_small, value_least}
 use Rattle.sections.specs.Split.{Split, split, numbers_count}
 
 -- where the line after it starts is no 0, so that 0 tells that it is not so many numbers

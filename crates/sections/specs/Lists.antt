@@ -1,8 +1,8 @@
 -- So many lines from a place on, whatever they hold; what each starts with where it is a line of numbers.
 use Prim.Native.Nat.{ℕ, zero, suc, ◌+◌, ◌-◌, ◌≤◌, ◌<◌}
-use Rattle.std.proofs.Common.{arith, add-one, sym, subst, ◌∙◌, inl, inr, true≢false, lt-ltb, le-ltb, ltb-true, ltb-false, eqb-true}
-use Rattle.std.specs.Prelude.{◌≡◌, ◌⊎◌, Bool, true, false, ◌&&◌, ◌||◌, cond, length, drop, ltb, eqb}
-use Rattle.std.proofs.Math.Path.{refl, ap, subst⁻¹}
+use Rattle.std.proofs.Common.{arith, sym, subst, ◌∙◌, inl, inr, true≢false, lt-ltb, ltb-true, ltb-false, eqb-true}
+use Rattle.std.specs.Prelude.{◌≡◌, ◌⊎◌, Bool, true, false, ◌||◌, cond, length, drop, ltb, eqb}
+use Rattle.std.proofs.Math.Path.{refl, ap}
 use mathlib.Core.List.{List, [], ◌∷◌, ◌++◌, map, append-nil}
 use Rattle.std.proofs.Math.ListN.{get_or}
 use Rattle.std.proofs.lemmas.List.{length-map}

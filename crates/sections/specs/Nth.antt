@@ -1,12 +1,12 @@
 -- One number of a line after another.
-use Rattle.std.specs.Prelude.{ℕ, zero, suc, ◌+◌, ◌-◌, ◌≤◌, ◌<◌, ◌≡◌, refl, true, List, [], ◌∷◌, length, get_or, drop}
+use Rattle.std.specs.Prelude.{ℕ, zero, suc, ◌+◌, ◌-◌, ◌<◌, ◌≡◌, true, List, ◌∷◌, length, get_or, drop}
 use Rattle.std.proofs.Common.{arith, add-one, sym, ap, subst, ◌∙◌}
 use Rattle.meaning.specs.Lines.{line_at, ended, of_numbers}
 use Rattle.meaning.specs.CircuitText.{numbers_at}
 use Rattle.lines.specs.declared.number.Number.{Number}
 use Rattle.lines.specs.Numbers.{digits_of, span, worth, Stands}
 use Rattle.sections.specs.Rows.{numbers_after, Rest}
-use Rattle.sections.specs.Split.{Split, split}
+use Rattle.sections.specs.Split.{split}
 
 -- x is number i of the line, and the others follow it
 pub record Reached (text : List ℕ) (at width i : ℕ) (x : Number) : Type 0 where

@@ -1,21 +1,19 @@
 -- A section, as far as it is read: how it ends is how the rest of it ends.
-use Rattle.std.specs.Prelude.{ℕ, zero, suc, ◌+◌, ◌-◌, ◌*◌, ◌≤◌, ◌<◌, ◌≡◌, ◌⊎◌, Bool, ◌&&◌, length, get_or, ltb, leb}
+use Rattle.std.specs.Prelude.{ℕ, suc, ◌+◌, ◌-◌, ◌*◌, ◌≤◌, ◌<◌, ◌≡◌, ◌⊎◌, Bool, length, get_or, ltb, leb}
 use native.Mathlib.Omega.{arith}
 use Rattle.std.proofs.Common.{add-one, ◌∙◌, inl, inr, true≢false, ltb-true, ltb-false, leb-true, leb-false}
 use Rattle.std.proofs.Math.Path.{refl, sym, ap, subst}
 use Rattle.std.proofs.Math.Bool.{true, false, cond}
 use mathlib.Core.List.{List, [], ◌∷◌, ◌++◌, map, append_assoc, append-nil}
 use Rattle.meaning.specs.Clauses.{all}
-use Rattle.meaning.specs.Lines.{line_at, ended, next_line, words, is_number, is_empty, of_numbers}
+use Rattle.meaning.specs.Lines.{line_at, ended, next_line, words, is_number, is_empty}
 use Rattle.meaning.specs.Circuit.{var}
-use Rattle.meaning.specs.CircuitText
 use Rattle.meaning.specs.CircuitText.{Section, fault, lines, section, line_right, line_and, if_right, before_next, numbers_at, at_number, defined_in, Line}
-use Rattle.laws.specs.Basics.{bool_cases, and_left, and_right}
+use Rattle.laws.specs.Basics.{bool_cases}
 use Rattle.lines.specs.Numbers.{huge, capped}
 use Rattle.lines.specs.Literals.{capped_below}
 use Rattle.sections.specs.declared.find.Lines.{Lines}
 use Rattle.sections.specs.declared.line.Form.{Form}
-use Rattle.sections.specs.declared.line.Before.{Before}
 use Rattle.sections.specs.declared.read.Ended.{Ended}
 use Rattle.sections.specs.Lists.{first_lines, line_after, Numbered, Placed, variables_of, lines_more, after_more, numbered_more}
 use Rattle.sections.specs.Rows.{form_of, before_of}

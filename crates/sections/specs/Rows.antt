@@ -1,24 +1,22 @@
 -- One line of a section: its numbers one after another, and what is defined before it.
-use Rattle.std.specs.Prelude.{ℕ, zero, suc, ◌+◌, ◌-◌, ◌*◌, ◌%◌, ◌≤◌, ◌<◌, ◌≡◌, refl, ◌⊎◌, Bool, true, false, not, ◌&&◌, ◌||◌, cond, List, [], ◌∷◌, ◌++◌, map, length, get_or, drop, ltb, eqb}
-use Rattle.std.proofs.Common.{arith, subst, ◌∙◌, inl, inr, true≢false}
+use Rattle.std.specs.Prelude.{ℕ, zero, suc, ◌+◌, ◌*◌, ◌%◌, ◌≤◌, ◌<◌, ◌≡◌, refl, ◌⊎◌, Bool, true, false, not, ◌||◌, List, [], ◌∷◌, ◌++◌, length, eqb}
+use Rattle.std.proofs.Common.{arith, subst, ◌∙◌, inl, inr}
 use Rattle.std.proofs.Math.Path.{sym, ap}
 use Rattle.std.proofs.Math.Dec.{leb}
-use borrow.Author.Tests.{eq-eqb, ne_eqb, eqb-true, eqb-false, le-leb, lt-leb, leb-true, leb-false}
-use Rattle.meaning.specs.Clauses.{any, all}
+use borrow.Author.Tests.{eqb-true, le-leb, lt-leb, leb-true, leb-false}
+use Rattle.meaning.specs.Clauses.{any}
 use Rattle.meaning.specs.File.{between}
-use Rattle.meaning.specs.Lines.{line_at, ended, next_line, words, is_number, decimal, of_numbers, newline, space}
+use Rattle.meaning.specs.Lines.{line_at, ended, of_numbers}
 use Rattle.meaning.specs.Circuit.{var}
 use Rattle.meaning.specs.Built.{among}
 use Rattle.meaning.specs.CircuitText
 use Rattle.meaning.specs.CircuitText.{numbers_at, used_right, defined_right, literals_right, line_right}
-use Rattle.laws.specs.Basics.{bool_cases, and_left, and_right, and_both}
+use Rattle.laws.specs.Basics.{bool_cases}
 use Rattle.lines.specs.declared.number.Number.{Number}
-use Rattle.lines.specs.Numbers.{digits_of, span, worth, Stands, huge, capped}
-use Rattle.lines.specs.Past.{line_past, words_last, words_space, words_other}
-use Rattle.sections.specs.declared.find.Lines.{Lines}
+use Rattle.lines.specs.Numbers.{worth, Stands, huge, capped}
 use Rattle.sections.specs.declared.line.Form.{Form}
 use Rattle.sections.specs.declared.line.Before.{Before}
-use Rattle.sections.specs.Lists.{variables_of, Placed, first_word_is}
+use Rattle.sections.specs.Lists.{variables_of, Placed}
 
 -- the form, as the definition has it
 unfoldable pub form_of : Form → CircuitText.Form

@@ -1,5 +1,5 @@
 -- A section that is read is so many lines from its place on, each ended and of so many numbers at least.
-use Rattle.std.specs.Prelude.{ℕ, zero, suc, ◌+◌, ◌≤◌, ◌≡◌, refl, ◌⊎◌, Bool, true, false, ◌&&◌, List, [], ◌∷◌, length}
+use Rattle.std.specs.Prelude.{ℕ, zero, suc, ◌+◌, ◌≤◌, ◌≡◌, refl, ◌⊎◌, Bool, true, false, ◌&&◌, List, ◌∷◌, length}
 use Rattle.std.proofs.Common.{arith, sym, ap, ◌∙◌, inl, inr, ltb-true}
 use Rattle.meaning.specs.Clauses.{all}
 use Rattle.meaning.specs.Lines.{line_at, ended, next_line, words, is_number, of_numbers}

@@ -1,5 +1,5 @@
 -- Looking for a variable among some lines: what holds when the first i of them are passed.
-use Rattle.std.specs.Prelude.{ℕ, zero, suc, ◌+◌, ◌-◌, ◌≤◌, ◌<◌, ◌≡◌, refl, Bool, true, false, List, length, get_or, drop, eqb}
+use Rattle.std.specs.Prelude.{ℕ, ◌+◌, ◌-◌, ◌≤◌, ◌<◌, ◌≡◌, Bool, true, false, List, length, get_or, drop, eqb}
 use Rattle.std.proofs.Common.{arith, sym, ap, subst, ◌∙◌}
 use Rattle.meaning.specs.Clauses.{all}
 use Rattle.meaning.specs.Lines.{line_at, ended, next_line, words, is_number}

@@ -1,14 +1,14 @@
 -- A line of so many numbers is its first number and the rest.
-use Prim.Native.Nat.{ℕ, zero, suc, ◌+◌, ◌-◌, ◌≤◌, ◌<◌}
+use Prim.Native.Nat.{ℕ, zero, suc, ◌+◌, ◌-◌, ◌<◌}
 use native.Mathlib.Omega.{arith}
-use Rattle.std.specs.Prelude.{◌≡◌, refl, ◌⊎◌, Bool, true, false, not, ◌&&◌, cond, get_or, drop, ltb, eqb}
+use Rattle.std.specs.Prelude.{◌≡◌, refl, ◌⊎◌, Bool, true, false, get_or, drop, ltb, eqb}
 use Rattle.std.proofs.Math.Path.{sym, ap, subst}
 use Rattle.std.proofs.Common.{◌∙◌, inl, inr, true≢false, eq-eqb, eqb-true, ltb-true, ltb-false}
 use mathlib.Core.List.{List, [], ◌∷◌, map}
 use Rattle.std.proofs.Math.ListN.{length}
 use Rattle.std.proofs.lemmas.Bool.{eqb-false}
 use Rattle.meaning.specs.Clauses.{all}
-use Rattle.meaning.specs.Lines.{line_at, ended, words, is_empty, is_digit, is_number, decimal, of_numbers, newline, space}
+use Rattle.meaning.specs.Lines.{line_at, ended, words, is_empty, is_number, decimal, of_numbers, newline, space}
 use Rattle.meaning.specs.CircuitText.{numbers_at, used_right}
 use Rattle.laws.specs.Basics.{bool_cases, and_left, and_right, and_both}
 use Rattle.lines.specs.declared.number.Number.{Number}

@@ -1,21 +1,20 @@
 -- Laws of a lemma line's causes: by the word at a place, and the byte after it.
-use Rattle.std.specs.Prelude.{ℕ, suc, ◌+◌, ◌≤◌, ◌<◌, ◌≡◌, refl, ◌⊎◌, Bool, ◌&&◌, List, [], ◌∷◌, length, get_or, eqb, leb, ltb}
+use Rattle.std.specs.Prelude.{ℕ, suc, ◌+◌, ◌≤◌, ◌<◌, ◌≡◌, ◌⊎◌, Bool, List, [], ◌∷◌, length, get_or, eqb, leb, ltb}
 use Rattle.std.proofs.Math.Path.{sym, ap}
 use Rattle.std.proofs.Common.{◌∙◌, inl, inr, true≢false, arith}
 use Rattle.std.proofs.Math.Bool.{true, false, cond}
 use Rattle.std.proofs.Math.Seq.{slice_empty}
-use borrow.Author.Tests.{eq-eqb, ne_eqb, lt-ltb, le-ltb, le-leb, lt-leb, leb-true, leb-false, ltb-true, ltb-false}
+use borrow.Author.Tests.{eq-eqb, ne_eqb, lt-ltb, le-ltb, le-leb, lt-leb, leb-true, ltb-true, ltb-false}
 use Rattle.meaning.specs.Lines.{newline, space, line_at, ended, words, is_number, is_empty, decimal}
-use Rattle.meaning.specs.LemmaText.{has_minus, unsigned, is_zero}
+use Rattle.meaning.specs.LemmaText.{unsigned, is_zero}
 use Rattle.laws.specs.Basics.{bool_cases}
 use Rattle.lines.specs.declared.number.Number.{Number}
 use Rattle.lines.specs.Numbers.{huge, capped, span, worth}
 use Rattle.lines.specs.Past.{first_word}
 use Rattle.lines.specs.PastLaws.{some_digits}
-use Rattle.lemma_text.specs.Words.{WordAt, minus_at, digits_start, with_sign, unsigned_is, plain_span, signed_not_zero, sign_before, word_cut, word_last, word_space, word_space_ended, word_other}
+use Rattle.lemma_text.specs.Words.{WordAt, minus_at, digits_start, with_sign, unsigned_is, plain_span, signed_not_zero, sign_before, word_cut, word_last, word_space, word_other}
 use Rattle.lemma_text.specs.Line.{value_zero}
-use Rattle.text_faults.specs.declared.lemmas.Cause.{Cause}
-use Rattle.text_faults.specs.declared.lemmas.Cause.TheVariants.{Open, Word, Inner, Over, NoZero, Nothing}
+use Rattle.text_faults.specs.declared.lemmas.Cause.TheVariants.{Word, Inner, Over, NoZero, Nothing}
 use Rattle.text_faults.specs.Lemmas.{last_cause, inner_cause, words_cause}
 
 -- ---- a value as far as it is below the bound

@@ -147,6 +147,17 @@ walk_nothing text cs e = let same : [] ≡ cs = cc in subst (λ (ds : List Claus
 walk_more : (text : List ℕ) (d : Clause) (cs : List Clause) (told : Limit) → length d ≤ literals_most → WalkSo text cs told
     → WalkSo text (d ∷ cs) told
 unfolding any
+walk_more text d cs LongCircuit few none = elim none [ ]
+walk_more text d cs LongLemmas few none = elim none [ ]
+walk_more text d cs NoLatch few none = elim none [ ]
+walk_more text d cs (Latches _) few none = elim none [ ]
+walk_more text d cs (Width _ _) few none = elim none [ ]
+walk_more text d cs NoBad few none = elim none [ ]
+walk_more text d cs (Outputs _) few none = elim none [ ]
+walk_more text d cs (Bads _) few none = elim none [ ]
+walk_more text d cs (Both _ _) few none = elim none [ ]
+walk_more text d cs (ManyLemmas _) few none = elim none [ ]
+walk_more text d cs Nothing few none = elim none [ ]
 walk_more text d cs (LongLemma line met) few (at, here, is_in, is, long) = (at, here, inr is_in, is, long)
 walk_more text d cs Clauses few none = rw (le-ltb literals_most (length d) few) none
 
@@ -308,6 +319,17 @@ module _ (text lemma_text : List ℕ) (c : Circuit) (ls : List Clause) (read : r
       (ap not few.one_bad) count short over)
 
   walk_told : (told : Limit) → WalkSo lemma_text ls told → Few → ltb lemmas_most (length ls) ≡ false → Told told
+  walk_told LongCircuit found few count = elim found [ ]
+  walk_told LongLemmas found few count = elim found [ ]
+  walk_told NoLatch found few count = elim found [ ]
+  walk_told (Latches _) found few count = elim found [ ]
+  walk_told (Width _ _) found few count = elim found [ ]
+  walk_told NoBad found few count = elim found [ ]
+  walk_told (Outputs _) found few count = elim found [ ]
+  walk_told (Bads _) found few count = elim found [ ]
+  walk_told (Both _ _) found few count = elim found [ ]
+  walk_told (ManyLemmas _) found few count = elim found [ ]
+  walk_told Nothing found few count = elim found [ ]
   walk_told (LongLemma line met) found few count = found
   walk_told Clauses short few count = clauses_so few count short
 

@@ -1,9 +1,9 @@
 -- Places of lines in a text, and the laws by which they are found.
-use Rattle.std.specs.Prelude.{ℕ, zero, suc, ◌+◌, ◌-◌, ◌≤◌, ◌<◌, ◌≡◌, refl, Bool, true, false, cond, List, [], ◌∷◌, length, take, drop, get_or, ltb, eqb}
+use Rattle.std.specs.Prelude.{ℕ, zero, suc, ◌+◌, ◌≤◌, ◌<◌, ◌≡◌, refl, Bool, cond, List, [], ◌∷◌, length, take, drop, get_or, eqb}
 use Rattle.std.proofs.Common.{sym, ap, ◌∙◌, arith, add-one, drop-cons}
 use Rattle.std.proofs.Math.Seq.{drop-length}
-use borrow.Author.Tests.{eq-eqb, ne_eqb, le-ltb}
-use Rattle.meaning.specs.Lines.{newline, line_at, ended, next_line, decimal}
+use borrow.Author.Tests.{eq-eqb, ne_eqb}
+use Rattle.meaning.specs.Lines.{newline, ended, next_line, decimal}
 use Rattle.lines.specs.Numbers.{digits_of}
 use Rattle.lines.specs.Past.{not_ended}
 use Rattle.symbols.specs.Symbols.{LineTo}

@@ -1,8 +1,8 @@
 -- What is told of a circuit text's line is so: for each cause, what holds of the text and the place.
-use Rattle.std.specs.Prelude.{ℕ, zero, suc, ◌+◌, ◌-◌, ◌≤◌, ◌<◌, ◌%◌, min, ◌≡◌, refl, ◌⊎◌, Bool, not, ◌&&◌, cond, List, length, get_or, ltb, leb, eqb}
+use Rattle.std.specs.Prelude.{ℕ, zero, suc, ◌+◌, ◌-◌, ◌≤◌, ◌<◌, ◌%◌, min, ◌≡◌, refl, ◌⊎◌, Bool, not, cond, List, length, get_or, ltb, leb, eqb}
 use Rattle.std.proofs.Common.{sym, ap, ◌∙◌, inl, inr, true≢false, arith}
 use Rattle.std.proofs.Math.Bool.{true, false}
-use borrow.Author.Tests.{not-true, ltb-true, ltb-false, leb-true, leb-false, eqb-true, eqb-false, lt-ltb}
+use borrow.Author.Tests.{ltb-true, leb-true, leb-false, eqb-true}
 use Rattle.meaning.specs.Circuit.{var}
 use Rattle.meaning.specs.Lines.{line_at, ended, next_line, of_numbers}
 use Rattle.meaning.specs.CircuitText.{Header, header_of, used_right, latch_form, start_right, numbers_at}

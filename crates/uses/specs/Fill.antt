@@ -1,18 +1,17 @@
 -- The gates of a circuit text by number: where their literals come from, and which of their lines cannot be worked out.
-use Rattle.std.specs.Prelude.{ℕ, zero, suc, ◌+◌, ◌-◌, ◌≤◌, ◌<◌, ◌≡◌, refl, ◌⊎◌, Bool, true, false, cond, length, set, replicate, eqb}
-use Rattle.std.proofs.Common.{arith, add-one, sym, subst, ◌∙◌, inl, inr, true≢false, length-set, get_or-set_same, eqb-true, eq-eqb, ne_eqb}
+use Rattle.std.specs.Prelude.{ℕ, zero, suc, ◌+◌, ◌≤◌, ◌<◌, ◌≡◌, refl, ◌⊎◌, true, false, length, set, replicate, eqb}
+use Rattle.std.proofs.Common.{arith, sym, subst, ◌∙◌, inl, inr, true≢false, length-set, get_or-set_same, eqb-true}
 use Rattle.std.proofs.Math.Path.{ap}
 use Rattle.std.proofs.Math.Bool.{not}
-use mathlib.Core.List.{List, [], ◌∷◌, map}
+use mathlib.Core.List.{List, []}
 use Rattle.std.proofs.Math.ListN.{get_or, get_or-map}
 use Rattle.std.proofs.lemmas.List.{length-replicate}
 use Rattle.std.proofs.Math.Seq.{get_or-set_other}
 use Rattle.std.proofs.lemmas.Bool.{eqb-false}
 use Rattle.meaning.specs.Demands.{In}
 use Rattle.meaning.specs.Lines.{next_line}
-use Rattle.meaning.specs.Circuit
 use Rattle.meaning.specs.Circuit.{Gate, var, gate_variables}
-use Rattle.meaning.specs.CircuitText.{Line, numbers_at, at_number, gate_of, circuit_of, given, gate_works}
+use Rattle.meaning.specs.CircuitText.{numbers_at, at_number, gate_of, circuit_of, given, gate_works}
 use Rattle.laws.specs.Basics.{bool_cases}
 use Rattle.circuit_laws.specs.Sane.{Once}
 use Rattle.sections.specs.declared.circuit.Circuit.{Circuit}
@@ -21,7 +20,7 @@ use Rattle.sections.specs.Whole.{circuit_at, sections_of, lines_of, gates_are, g
 use Rattle.uses.specs.Sources.{source_of}
 use Rattle.uses.specs.Solve.{is_done, Sized, Solved}
 use Rattle.uses.specs.Passing.{line_here}
-use Rattle.uses.specs.Works.{nth_gate, no_gate, source_most, works_is}
+use Rattle.uses.specs.Works.{nth_gate, source_most, works_is}
 
 -- number j of gate line k
 unfoldable pub gate_number : List ℕ → Circuit → ℕ → ℕ → ℕ

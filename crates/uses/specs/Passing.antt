@@ -1,5 +1,5 @@
 -- Some lines looked at one after another, up to the first that does not pass.
-use Rattle.std.specs.Prelude.{ℕ, zero, suc, ◌+◌, ◌-◌, ◌≤◌, ◌<◌, ◌≡◌, refl, Bool, true, false, List, [], ◌∷◌, get_or}
+use Rattle.std.specs.Prelude.{ℕ, suc, ◌+◌, ◌-◌, ◌≤◌, ◌<◌, ◌≡◌, refl, Bool, true, false, List, get_or}
 use native.Mathlib.Omega.{arith}
 use Rattle.std.proofs.Common.{add-one, ◌∙◌}
 use Rattle.std.proofs.Math.Path.{sym, ap, subst}

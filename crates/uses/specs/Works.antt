@@ -1,21 +1,20 @@
 -- When no gate is ready any more, what is marked is exactly what can be worked out.
 use Prim.Native.Nat.{ℕ, zero, suc, ◌+◌, ◌≤◌, ◌<◌}
 use Rattle.std.proofs.Common.{arith, ◌∙◌, inl, inr, true≢false}
-use Rattle.std.specs.Prelude.{◌≡◌, ◌⊎◌, Bool, not, ◌&&◌, cond, List, [], ◌∷◌, map, ltb, eqb}
+use Rattle.std.specs.Prelude.{◌≡◌, ◌⊎◌, Bool, not, ◌&&◌, cond, List, [], ◌∷◌, ltb, eqb}
 use Rattle.std.proofs.Math.Path.{refl, sym, ap, subst}
 use Rattle.std.proofs.Math.Bool.{true, false}
 use Rattle.std.proofs.Math.ListN.{length, get_or, length-map, get_or-map}
 use borrow.Author.Tests.{ltb-true, lt-ltb, eq-eqb, ne_eqb, eqb-true}
 use Rattle.meaning.specs.Demands.{In}
 use Rattle.meaning.specs.Circuit.{Circuit, Gate, var, gate_variables}
-use Rattle.meaning.specs.Built.{among, position}
+use Rattle.meaning.specs.Built.{position}
 use Rattle.meaning.specs.CircuitText.{given, worked_out, gate_works}
 use Rattle.laws.specs.Basics.{bool_cases, and_left, and_right, and_both, not_true_is_false}
 use Rattle.circuit_laws.specs.Sane.{Once}
 use Rattle.circuit_laws.specs.Rounds.{given_out, gate_out, closed_contains, rounds_enough}
-use Rattle.sections.specs.Lists.{among_position}
 use Rattle.uses.specs.Sources.{source_of}
-use Rattle.uses.specs.Solve.{is_done, ready, Carried, Marked, Solved}
+use Rattle.uses.specs.Solve.{is_done, ready, Carried, Solved}
 
 -- ---- lists
 
@@ -25,6 +24,7 @@ in_nth d (a ∷ as') zero h = inl refl
 in_nth d (a ∷ as') (suc k) h = inr (in_nth d as' k (omega arith))
 
 nth_in : {A : Type 0} (d a : A) (as' : List A) → In a as' → (k : ℕ) × (k < length as') × (a ≡ get_or as' k d)
+nth_in {A = A} d a [] x' = elim x' [ ]
 nth_in d a (b ∷ as') (inl e) = (0, omega arith, e)
 nth_in d a (b ∷ as') (inr i) = let on = nth_in d a as' i in (suc on.0, shift on.0 on.1, on.2)
   where

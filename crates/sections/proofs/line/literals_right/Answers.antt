@@ -1,0 +1,32 @@
+use mathlib.Core.List.{[]}
+use Rattle.sections.specs.LineOf.{literals_counts, line_split, literals_first, literals_rest}
+use Rattle.sections.proofs.line.literals_right.Goals as goal
+
+pub returns-then-form : goal.returns-then-form
+returns-then-form c = let p = c.requires in literals_counts _ _ _ _ _ _ _ p.at_value p.at_value_2 p.le_width c.if-form.true
+
+pub first_right-requires-clause-start_lt_end : goal.first_right-requires-clause-start_lt_end
+first_right-requires-clause-start_lt_end c =
+    let p = c.requires in
+    let y = c.number_at-first.ensures in
+    let cut = line_split c.args.form c.args.judged 0 [] _ _ _ p.at_value p.at_value_2 p.le_width _ y.0 y.1 y.2 in
+    cut.some
+
+pub returns-then-not-first_right : goal.returns-then-not-first_right
+returns-then-not-first_right c =
+    let p = c.requires in
+    let y = c.number_at-first.ensures in
+    literals_first _ _ _ _ _ _ _ p.at_value p.at_value_2 p.le_width _ y.0 y.1 y.2 c.if-form.false _ c.first_right.ensures c.if-not-first_right.true
+
+pub rest_right-requires-clause-rest : goal.rest_right-requires-clause-rest
+rest_right-requires-clause-rest c =
+    let p = c.requires in
+    let y = c.number_at-first.ensures in
+    let cut = line_split c.args.form c.args.judged 0 [] _ _ _ p.at_value p.at_value_2 p.le_width _ y.0 y.1 y.2 in
+    cut.rest
+
+pub returns : goal.returns
+returns c =
+    let p = c.requires in
+    let y = c.number_at-first.ensures in
+    literals_rest _ _ _ _ _ _ _ p.at_value p.at_value_2 p.le_width _ y.0 y.1 y.2 c.if-form.false _ c.first_right.ensures c.if-not-first_right.false _ c.rest_right.ensures

@@ -1,0 +1,19 @@
+-- `text_faults::cause::out` makes the definition's test. Assumes nothing.
+use mathlib.Core.Path.{ap, ◌∙◌}
+use mathlib.Core.Bool.{not}
+use borrow.Author.Tests.{lt-ltb, le-ltb}
+use Rattle.meaning.specs.CircuitText.{used_right}
+use Rattle.lines.specs.Numbers.{worth}
+use Rattle.text_faults.specs.Causes.{out}
+use Rattle.text_faults.proofs.cause.out.Goals as goal
+
+pub returns-then-width-j : goal.returns-then-width-j
+unfolding out
+returns-then-width-j c =
+    rw (le-ltb c.args.j c.args.width c.if-width-j.true)
+
+pub returns : goal.returns
+unfolding out
+returns c =
+    rw (lt-ltb c.args.j c.args.width c.if-width-j.false)
+    (ap not (c.used_right.ensures ∙ ap (used_right (worth c.args.text.now c.args.m)) c.nth.ensures.1))

@@ -1,0 +1,38 @@
+-- `text_faults::limits::limit_of` makes the definition's tests. Assumes nothing.
+use mathlib.Core.Path.{sym, ap, ◌∙◌}
+use borrow.Author.Tests.{lt-ltb, le-ltb, not-true, not-false}
+use lib.ListN.{length}
+use Rattle.meaning.specs.CircuitText.{Header}
+use Rattle.circuit_text.specs.Header.{header_at}
+use Rattle.text_faults.specs.Limits.{header_limit, limit_of}
+use Rattle.text_faults.proofs.limits.limit_of.Goals as goal
+
+pub returns-then-text-gt65536 : goal.returns-then-text-gt65536
+unfolding limit_of
+returns-then-text-gt65536 c =
+    rw (lt-ltb 65536 (length c.args.text.now) c.if-text-gt65536.true)
+
+pub returns-then-lemmas-gt65536 : goal.returns-then-lemmas-gt65536
+unfolding limit_of
+returns-then-lemmas-gt65536 c =
+    rw (le-ltb 65536 (length c.args.text.now) c.if-text-gt65536.false, lt-ltb 65536 (length c.args.lemmas.now) c.if-lemmas-gt65536.true)
+
+pub returns-then-not-h : goal.returns-then-not-h
+unfolding limit_of
+returns-then-not-h c =
+    rw (
+      le-ltb 65536 (length c.args.text.now) c.if-text-gt65536.false,
+      le-ltb 65536 (length c.args.lemmas.now) c.if-lemmas-gt65536.false,
+      sym c.read_header-h.ensures.right ∙ not-true _ c.if-not-h.true,
+    )
+
+pub returns : goal.returns
+unfolding limit_of header_at
+returns c =
+    let parts = c.read_header-h.ensures.parts (not-false _ c.if-not-h.false) in
+    rw (
+      le-ltb 65536 (length c.args.text.now) c.if-text-gt65536.false,
+      le-ltb 65536 (length c.args.lemmas.now) c.if-lemmas-gt65536.false,
+      sym c.read_header-h.ensures.right ∙ not-false _ c.if-not-h.false,
+    )
+    (c.header_limit.ensures ∙ ap (λ (h : Header). header_limit h c.args.lemmas.now) parts.worths)

@@ -1,0 +1,16 @@
+use mathlib.Core.Path.{refl, ◌∙◌}
+use native.Mathlib.Omega.{arith}
+use Rattle.uses.specs.Passing.{passing_start, passing_next}
+use Rattle.uses.specs.Fill.{filled_none, filled_more}
+use Rattle.uses.proofs.stuck.fill.Goals as goal
+
+pub loop-i-init : goal.loop-i-init
+loop-i-init c =
+    (filled_none _ _ _ _ c.requires.out_len, passing_start _ _ _ _ _ c.requires.whole.gates.inside c.requires.whole.gates.rows)
+
+pub loop-i-preserved : goal.loop-i-preserved
+loop-i-preserved c =
+    let h = c.loop-i.invariant in (
+      filled_more _ _ _ _ _ _ _ _ h.0 (omega (arith, c.requires.count_bound)) h.1.place c.nth-x.ensures.1 (c.narrow.ensures ∙ c.source.ensures.0),
+      passing_next _ _ _ _ _ h.1 (omega arith) refl _ c.next_line-p.ensures.0,
+    )
