@@ -1,13 +1,12 @@
 -- From the jobs on the file that is written to the calls on the two texts.
-use Rattle.std.specs.Prelude.{ℕ, ◌≤◌, ◌≡◌, refl, List, [], length, take}
+use Rattle.std.specs.Prelude.{ℕ, ◌≡◌, List, [], length, take}
 use Rattle.std.proofs.Common.{sym, subst, ◌∙◌, length-take-le}
 use Rattle.std.proofs.Math.Path.{ap}
 use Rattle.meaning.specs.Meaning.{Problem}
-use Rattle.meaning.specs.File.{Reading, accepted, rejected}
-use Rattle.meaning.specs.Filed.{file_of}
+use Rattle.meaning.specs.File.{Reading, rejected}
 use Rattle.meaning.specs.Calls
 use Rattle.meaning.specs.Calls.{Outcome, Program, refusal, on_reading, checked, largest_job, one_job, list_job, check_call, largest_call, one_call, list_call}
-use Rattle.meaning.specs.Circuits.{CircuitProgram, read_circuit, circuit_check_call, circuit_largest_call, circuit_one_call, circuit_list_call}
+use Rattle.meaning.specs.Circuits.{read_circuit, circuit_check_call, circuit_largest_call, circuit_one_call, circuit_list_call}
 use Rattle.circuit_laws.specs.CircuitDemands.{circuit_check_is, circuit_largest_is, circuit_one_is, circuit_list_is}
 use Rattle.problem.specs.declared.Report.{Report}
 use Rattle.problem.specs.Answers.{report_of}

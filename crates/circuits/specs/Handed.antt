@@ -1,10 +1,9 @@
 -- The problem file handed over to the caller.
-use Rattle.std.specs.Prelude.{ℕ, suc, ◌+◌, ◌-◌, ◌≤◌, ◌<◌, ◌≡◌, refl, Bool, true, false, cond, List, [], ◌∷◌, ◌++◌, length, get_or, take, drop, set, ltb}
-use Rattle.std.proofs.Common.{arith, add-one, sym, ap, ap₂, subst, ◌∙◌, length-set, take_all, lt-ltb, le-ltb}
+use Rattle.std.specs.Prelude.{ℕ, ◌+◌, ◌≤◌, ◌<◌, ◌≡◌, refl, cond, List, [], ◌++◌, length, get_or, take, drop, set, ltb}
+use Rattle.std.proofs.Common.{arith, add-one, sym, ap, ◌∙◌, length-set, take_all, lt-ltb, le-ltb}
 use Rattle.std.proofs.Math.Seq.{paste, paste-zero, paste-suc}
-use Rattle.std.proofs.lemmas.List.Edits.{length-paste}
 use Rattle.meaning.specs.Meaning.{Problem, k}
-use Rattle.meaning.specs.File.{Reading, accepted, read}
+use Rattle.meaning.specs.File.{accepted}
 use Rattle.meaning.specs.Filed.{file_of}
 use Rattle.meaning.specs.Calls
 use Rattle.meaning.specs.Calls.{Outcome, refusal, on_reading, checked, check_call}

@@ -1,6 +1,6 @@
 -- 14 and 15, by counts.
-use Rattle.std.specs.Prelude.{ℕ, zero, suc, ◌+◌, ◌≤◌, max, ◌≡◌, refl, ◌⊎◌, Bool, true, false, not, ◌||◌, cond, List, [], ◌∷◌, length, ltb, eqb}
-use Rattle.std.proofs.Common.{arith, sym, ap, ◌∙◌, inl, inr, true≢false, lt-ltb, le-ltb, ltb-true, ltb-false, eqb-true, ne_eqb}
+use Rattle.std.specs.Prelude.{ℕ, zero, suc, ◌+◌, ◌≤◌, max, ◌≡◌, refl, ◌⊎◌, Bool, true, false, not, ◌||◌, List, [], ◌∷◌, length, ltb, eqb}
+use Rattle.std.proofs.Common.{arith, sym, ap, inl, inr, true≢false, lt-ltb, le-ltb, ltb-true, ltb-false, eqb-true, ne_eqb}
 use Rattle.meaning.specs.Clauses.{Clause, any}
 use Rattle.meaning.specs.Circuits.{over_limits, has_liveness, clause_count, literals_most}
 use Rattle.meaning.specs.Built.{built}

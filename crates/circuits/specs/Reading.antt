@@ -1,13 +1,13 @@
 -- Both texts read, and the file that is written.
-use Rattle.std.specs.Prelude.{ℕ, zero, suc, ◌+◌, ◌≤◌, ◌<◌, ◌≡◌, Bool, true, false, ◌||◌, cond, ltb}
+use Rattle.std.specs.Prelude.{ℕ, ◌+◌, ◌≤◌, ◌<◌, ◌≡◌, Bool, true, false, ◌||◌, cond, ltb}
 use Rattle.std.proofs.Common.{arith, ◌∙◌, true≢false}
 use Rattle.std.proofs.Math.Path.{refl, sym, ap, subst}
-use mathlib.Core.List.{List, [], ◌∷◌, ◌++◌}
+use mathlib.Core.List.{List, [], ◌++◌}
 use Rattle.std.proofs.Math.ListN.{length, take, drop, length-append}
 use Rattle.std.proofs.Math.Seq.{take-append_seam}
 use borrow.Author.Tests.{lt-ltb, le-ltb}
 use Rattle.meaning.specs.Meaning.{Problem}
-use Rattle.meaning.specs.File.{Reading, accepted, rejected}
+use Rattle.meaning.specs.File.{accepted, rejected}
 use Rattle.meaning.specs.Filed.{file_of}
 use Rattle.meaning.specs.LemmaText.{read_lemma_text}
 use Rattle.meaning.specs.Clauses.{Clause}

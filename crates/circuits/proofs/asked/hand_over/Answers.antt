@@ -1,0 +1,9 @@
+use mathlib.Core.Path.{refl}
+use Rattle.circuits.specs.Handed.{handed_short, handed_fits}
+use Rattle.circuits.proofs.asked.hand_over.Goals as goal
+
+pub returns-then-file-own : goal.returns-then-file-own
+returns-then-file-own c = handed_short _ _ _ c.if-file-own.true c.refused.ensures
+
+pub returns : goal.returns
+returns c = handed_fits _ _ _ _ _ c.if-file-own.false refl c.check-checked.ensures c.copy.ensures
