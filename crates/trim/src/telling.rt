@@ -7,7 +7,14 @@ use problem::Report;
 use told::Job;
 use words::Order;
 
-fn tell_head(rt: &HostRuntime, order: Order, job: Job, file: &[u8], r: Report, lent: &[u8]) -> bool {
+fn tell_head(
+    rt: &HostRuntime,
+    order: Order,
+    job: Job,
+    file: &[u8],
+    r: Report,
+    lent: &[u8],
+) -> bool {
     let mut page = page::line();
     let end = told_lines::head_text(order.marks, job, file, r, lent, &mut page);
     page::show(rt, Stream::Output, &page, end)
@@ -45,7 +52,14 @@ fn tell_set_line(rt: &HostRuntime, order: Order, job: Job, number: usize, set: &
     page::show(rt, Stream::Output, &page, end)
 }
 
-fn tell_set(rt: &HostRuntime, order: Order, job: Job, file: &[u8], number: usize, set: &[u8]) -> bool {
+fn tell_set(
+    rt: &HostRuntime,
+    order: Order,
+    job: Job,
+    file: &[u8],
+    number: usize,
+    set: &[u8],
+) -> bool {
     if !tell_set_line(rt, order, job, number, set) {
         return false;
     }

@@ -22,7 +22,9 @@ fn is_of_circuit(number: u32, circuit: &[u8]) -> bool {
     circuits::check(circuit, b"").number == 13
 }
 
-fn tell_refusal(rt: &HostRuntime, name: &[u8],
+fn tell_refusal(
+    rt: &HostRuntime,
+    name: &[u8],
     circuit: &[u8],
     other: &[u8],
     lemmas: &[u8],
@@ -61,7 +63,14 @@ fn work_on(rt: &HostRuntime, order: Order, file: &[u8], n: usize) {
 }
 
 // Texts that were read whole.
-fn work_whole(rt: &HostRuntime, order: Order, name: &[u8], circuit: &[u8], other: &[u8], lemmas: &[u8]) {
+fn work_whole(
+    rt: &HostRuntime,
+    order: Order,
+    name: &[u8],
+    circuit: &[u8],
+    other: &[u8],
+    lemmas: &[u8],
+) {
     let mut file = file_room();
     let r = circuits::problem(circuit, lemmas, &mut file);
     if r.number != 0 {
@@ -117,7 +126,14 @@ fn work_longer(rt: &HostRuntime, name: &[u8], circuit: &[u8], other: &[u8], lemm
 }
 
 // A text that fills its room was perhaps not read whole. It is over the limit in any case, and what is behind the room is not judged.
-fn work_texts(rt: &HostRuntime, order: Order, name: &[u8], circuit: &[u8], other: &[u8], lemmas: &[u8]) {
+fn work_texts(
+    rt: &HostRuntime,
+    order: Order,
+    name: &[u8],
+    circuit: &[u8],
+    other: &[u8],
+    lemmas: &[u8],
+) {
     if 1048576 <= circuit.len() {
         work_longer(rt, name, circuit, other, lemmas);
         return;
@@ -129,18 +145,40 @@ fn work_texts(rt: &HostRuntime, order: Order, name: &[u8], circuit: &[u8], other
     work_whole(rt, order, name, circuit, other, lemmas);
 }
 
-fn work_both(rt: &HostRuntime, order: Order, name: &[u8], circuit: &[u8], other: &[u8], lemmas: &[u8], n: usize) {
+fn work_both(
+    rt: &HostRuntime,
+    order: Order,
+    name: &[u8],
+    circuit: &[u8],
+    other: &[u8],
+    lemmas: &[u8],
+    n: usize,
+) {
     if n <= lemmas.len() {
         work_texts(rt, order, name, circuit, other, &lemmas[..n]);
     }
 }
 
-fn read_lemmas(rt: &HostRuntime, order: Order, name: &[u8], circuit: &[u8], other: &[u8], room: &mut [u8]) {
+fn read_lemmas(
+    rt: &HostRuntime,
+    order: Order,
+    name: &[u8],
+    circuit: &[u8],
+    other: &[u8],
+    room: &mut [u8],
+) {
     let n = reading::read_named(rt, other, room);
     work_both(rt, order, name, circuit, other, room, n);
 }
 
-fn lend_lemmas(rt: &HostRuntime, order: Order, name: &[u8], circuit: &[u8], other: &[u8], room: &mut [u8; 1048576]) {
+fn lend_lemmas(
+    rt: &HostRuntime,
+    order: Order,
+    name: &[u8],
+    circuit: &[u8],
+    other: &[u8],
+    room: &mut [u8; 1048576],
+) {
     read_lemmas(rt, order, name, circuit, other, room);
 }
 
@@ -149,7 +187,14 @@ fn work_lemmas(rt: &HostRuntime, order: Order, name: &[u8], circuit: &[u8], othe
     lend_lemmas(rt, order, name, circuit, other, &mut room);
 }
 
-fn work_circuit(rt: &HostRuntime, order: Order, name: &[u8], circuit: &[u8], n: usize, other: &[u8]) {
+fn work_circuit(
+    rt: &HostRuntime,
+    order: Order,
+    name: &[u8],
+    circuit: &[u8],
+    n: usize,
+    other: &[u8],
+) {
     if n <= circuit.len() {
         work_lemmas(rt, order, name, &circuit[..n], other);
     }
@@ -160,7 +205,13 @@ fn read_circuit(rt: &HostRuntime, order: Order, name: &[u8], other: &[u8], room:
     work_circuit(rt, order, name, room, n, other);
 }
 
-fn lend_circuit(rt: &HostRuntime, order: Order, name: &[u8], other: &[u8], room: &mut [u8; 1048576]) {
+fn lend_circuit(
+    rt: &HostRuntime,
+    order: Order,
+    name: &[u8],
+    other: &[u8],
+    room: &mut [u8; 1048576],
+) {
     read_circuit(rt, order, name, other, room);
 }
 
