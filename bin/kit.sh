@@ -15,6 +15,7 @@ checking() { # CRATE RT'S WORDS...
 
 # Proves and builds a program, crates/NAME/out/NAME, where that is not done, and runs it once on these words and no input.
 prove() { # PROGRAM WORDS...
+    mkdir -p target
     program=$1
     shift
     checking "$program" run -- "$@" >/dev/null 2>target/proving </dev/null
