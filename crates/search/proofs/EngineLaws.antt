@@ -1,8 +1,10 @@
 -- The clauses of a question as they stand in a file, and how a pass over them ends.
+use denote.Enum.Declared.{tag_of}
 use Prim.Native.Nat.{ℕ, ◌+◌, ◌-◌, ◌≤◌, ◌<◌}
 use native.Mathlib.Nat.{pos_of_ne-zero}
 use native.Mathlib.Omega.{arith}
 use mathlib.Core.Path.{◌≡◌, refl, sym, ap, ◌∙◌, subst}
+use mathlib.Core.Logic.{◌⊎◌, inl, inr}
 use mathlib.Core.Bool.{Bool}
 use mathlib.Core.List.{List, ◌++◌, map}
 use lib.ListN.{length}
@@ -23,7 +25,8 @@ use Rattle.search.specs.declared.Parts.{Parts}
 use Rattle.search.specs.declared.Next.{Next}
 use Rattle.search.specs.declared.Next.TheVariants.{Satisfied, Try, Forced, Closed}
 use Rattle.search.specs.declared.Found.{Found}
-use Rattle.search.specs.declared.Found.TheVariants.{No, Spent}
+use Rattle.search.specs.declared.Found.TheVariants.{Yes, No, Spent}
+use Rattle.search.specs.contracts.Found
 use Rattle.passes.specs.Sweep.{Pass, passed, try, sweep}
 use Rattle.search.specs.Forms.{pass_at, yes_or_no, bounded, later, ended_by}
 use Rattle.search.specs.Places.{Sound, parts_clauses}
@@ -79,6 +82,13 @@ ready_ended cs v u left Satisfied h r = sym (ap (λ (e : Ending). bounded left (
 ready_ended cs v u left Closed h r = sym (ap (λ (e : Ending). bounded left (answer e)) r ∙ under left _ (omega arith))
 ready_ended cs v u left Forced h r = absurd r
 ready_ended cs v u left (Try l) h r = absurd (h l refl)
+
+-- an answer that is no `No`
+pub not_no : (f : Found) → (tag_of Found.the_type f ≡ 0) ⊎ (tag_of Found.the_type f ≡ 2) → (d : ℕ) → f ≡ No d → ⊥
+not_no (Yes e) h d x = let z : ◌≡◌ {A = ℕ} 0 1 = cc in omega arith
+not_no Spent h d x = let z : ◌≡◌ {A = ℕ} 0 1 = cc in omega arith
+not_no (No e) (inl t) d x = omega (arith, t)
+not_no (No e) (inr t) d x = omega (arith, t)
 
 -- Rule (d) at a setting that is ready, within a budget
 module _ (cs : List Clause) (within : Within 512 cs) (v u : Setting) (sized : length v ≡ 513) (l : Literal)
