@@ -16,7 +16,8 @@ fn main() {
     println!("cargo:rustc-link-lib=static={name}");
 }
 
-/// Folder and name of the archive: the toolchain's own on x86-64, the only processor that it compiles for; else the one that would be for this one.
+/// Folder and name of the archive: as the toolchain writes it, for x86-64; elsewhere the name of one for the processor at hand, which today's
+/// toolchain does not make.
 fn library() -> (&'static str, &'static str) {
     let processor = std::env::var("CARGO_CFG_TARGET_ARCH").expect("cargo names the processor");
     if processor == "x86_64" {
