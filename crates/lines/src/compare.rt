@@ -54,14 +54,12 @@ pub fn compare(text: &[u8], a: Number, b: Number, c: Number, carry: usize, m: Nu
     ensures { result ≡ order (worth text.now a + worth text.now b + worth text.now c + carry) (worth text.now m) }
 {
     let width = wider(wider(wider(wider(0, a), b), c), m);
-    let mut p: usize = 0;
     let mut over = carry;
     let mut seen: usize = 1;
-    while p < width {
+    for p in 0..width {
         let sum = digit_from(text, a, p) + digit_from(text, b, p) + digit_from(text, c, p) + over;
         seen = next_seen(sum % 10, digit_from(text, m, p), seen);
         over = sum / 10;
-        p += 1;
     }
     if 0 < over {
         return 2;

@@ -43,12 +43,10 @@ pub fn next_line(text: &[u8], at: usize) -> usize
     requires at_value { ended text.now at ≡ true }
     ensures { (result ≡ next_line text.now at) × (result ≤ length text.now) × (at < result) }
 {
-    let mut p = at;
-    while p < text.len() {
-        if text[p] == 10 {
+    for p in at..text.len() {
+        if text[p] == b'\n' {
             return p + 1;
         }
-        p += 1;
     }
-    p
+    text.len()
 }

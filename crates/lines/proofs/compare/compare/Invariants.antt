@@ -4,6 +4,3 @@ use Rattle.lines.proofs.compare.compare.Given as goal
 
 abbrev pub invariant-loop-p : goal.invariant-loop-p
 invariant-loop-p l = ComparedTo l.text l.a l.b l.c l.m l.carry l.p l.over l.seen × (l.over ≤ 9) × (l.p ≤ l.width)
-
-abbrev pub decreases-loop-p : goal.decreases-loop-p
-decreases-loop-p l = l.width - l.p
