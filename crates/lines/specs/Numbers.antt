@@ -1,5 +1,5 @@
 -- Numbers in a text: their digits, their span, and their value as far as it is below a bound.
-use Rattle.std.specs.Prelude.{ℕ, suc, ◌+◌, ◌-◌, ◌*◌, ◌≤◌, ◌<◌, ◌≡◌, ◌⊎◌, Bool, take, drop, leb}
+use Rattle.std.specs.Prelude.{ℕ, suc, ◌+◌, ◌-◌, ◌*◌, ◌≤◌, ◌<◌, ◌≡◌, ◌⊎◌, Bool, ◌&&◌, take, drop, leb, Option, Some, None}
 use native.Mathlib.Omega.{arith}
 use Rattle.std.proofs.Common.{add-one, sym, subst, ◌∙◌, inl, inr, drop_of_length-le, drop-cons, take-suc, length-take-le}
 use Rattle.std.proofs.Math.Path.{refl, ap}
@@ -13,7 +13,7 @@ use borrow.Author.Tests.{lt-ltb, le-ltb, ltb-true, ltb-false, leb-true, leb-fals
 use Rattle.meaning.specs.Clauses.{all}
 use Rattle.meaning.specs.File.{between}
 use Rattle.meaning.specs.Lines.{is_digit, decimal, decimal_on}
-use Rattle.laws.specs.Basics.{bool_cases, and_right, and_both, all_append}
+use Rattle.laws.specs.Basics.{bool_cases, and_both, all_append}
 use Rattle.lines.specs.declared.number.Number.{Number}
 
 -- the digits that a text starts with
@@ -21,9 +21,9 @@ unfoldable pub digits_of : List ℕ → List ℕ
 digits_of [] = []
 digits_of (b ∷ bs) = cond (is_digit b) (b ∷ digits_of bs) []
 
--- what the byte at a place is worth as a digit; 10 where there is none
-unfoldable pub digit_at : List ℕ → ℕ → ℕ
-digit_at text at = cond (ltb at (length text)) (cond (is_digit (get_or text at 0)) (get_or text at 0 - 48) 10) 10
+-- the digit at a place, if one stands there
+unfoldable pub digit_at : List ℕ → ℕ → Option ℕ
+digit_at text at = cond (ltb at (length text)) (cond (is_digit (get_or text at 0)) (Some (get_or text at 0 - 48)) None) None
 
 abbrev pub huge : ℕ
 huge = 18446744073709551610
@@ -56,54 +56,57 @@ pub record Stands (text : List ℕ) (x : Number) : Type 0 where
 -- ---- a digit at a place
 
 module _ (text : List ℕ) (at : ℕ) where
-  pub digit_past : length text ≤ at → digit_at text at ≡ 10
+  pub digit_past : length text ≤ at → digit_at text at ≡ None
   unfolding digit_at
   digit_past h = rw (le-ltb at (length text) h)
 
   module _ (in_text : at < length text) where
-    pub digit_low : get_or text at 0 < 48 → digit_at text at ≡ 10
+    pub digit_none : (48 ≤ get_or text at 0 → get_or text at 0 ≤ 57 → ⊥) → digit_at text at ≡ None
     unfolding digit_at is_digit between
-    digit_low h = rw (lt-ltb at (length text) in_text, lt-leb 48 (get_or text at 0) h)
+    digit_none other = rw (lt-ltb at (length text) in_text) (go (leb 48 (get_or text at 0)) (leb (get_or text at 0) 57) refl refl)
+      where
+        go : (low high : Bool) → leb 48 (get_or text at 0) ≡ low → leb (get_or text at 0) 57 ≡ high
+            → cond (low && high) (Some (get_or text at 0 - 48)) None ≡ None
+        go true true t u = absurd (other (leb-true 48 (get_or text at 0) t) (leb-true (get_or text at 0) 57 u))
+        go true false t u = refl
+        go false high t u = refl
 
-    pub digit_high : 57 < get_or text at 0 → digit_at text at ≡ 10
-    unfolding digit_at is_digit between
-    digit_high h =
-        let low : 48 ≤ get_or text at 0 = omega arith in
-        rw (lt-ltb at (length text) in_text, le-leb 48 (get_or text at 0) low, lt-leb (get_or text at 0) 57 h)
+    pub digit_low : get_or text at 0 < 48 → digit_at text at ≡ None
+    digit_low h = digit_none (λ low high. omega (arith, h, low))
 
-    pub digit_is : 48 ≤ get_or text at 0 → get_or text at 0 ≤ 57 → digit_at text at ≡ get_or text at 0 - 48
-    unfolding digit_at is_digit between
-    digit_is low high = rw (lt-ltb at (length text) in_text, le-leb 48 (get_or text at 0) low, le-leb (get_or text at 0) 57 high)
+    pub digit_high : 57 < get_or text at 0 → digit_at text at ≡ None
+    digit_high h = digit_none (λ low high. omega (arith, h, high))
 
-    pub digit_of_digit : is_digit (get_or text at 0) ≡ true → digit_at text at ≡ get_or text at 0 - 48
+    pub digit_of_digit : is_digit (get_or text at 0) ≡ true → digit_at text at ≡ Some (get_or text at 0 - 48)
     unfolding digit_at
     digit_of_digit h = rw (lt-ltb at (length text) in_text, h)
 
-  -- a digit is one of 0 to 9 exactly if a digit stands there
-  pub a_digit : digit_at text at ≤ 9
-      → (at < length text) × (is_digit (get_or text at 0) ≡ true) × (digit_at text at ≡ get_or text at 0 - 48)
+    pub digit_is : 48 ≤ get_or text at 0 → get_or text at 0 ≤ 57 → digit_at text at ≡ Some (get_or text at 0 - 48)
+    unfolding digit_at is_digit between
+    digit_is low high = rw (lt-ltb at (length text) in_text, le-leb 48 (get_or text at 0) low, le-leb (get_or text at 0) 57 high)
+
+  -- there is a digit exactly if one stands there
+  pub a_digit : (d : ℕ) → digit_at text at ≡ Some d
+      → (at < length text) × (is_digit (get_or text at 0) ≡ true) × (d ≡ get_or text at 0 - 48)
   unfolding digit_at
-  a_digit h = go (ltb at (length text)) (is_digit (get_or text at 0)) refl refl h
+  a_digit d h = go (ltb at (length text)) (is_digit (get_or text at 0)) refl refl h
     where
       go : (inside digit : Bool) → ltb at (length text) ≡ inside → is_digit (get_or text at 0) ≡ digit
-          → cond inside (cond digit (get_or text at 0 - 48) 10) 10 ≤ 9
-          → (at < length text) × (is_digit (get_or text at 0) ≡ true)
-          × (cond inside (cond digit (get_or text at 0 - 48) 10) 10 ≡ get_or text at 0 - 48)
-      go true true t u small = (ltb-true at (length text) t, u, refl)
-      go true false t u small = absurd (omega arith)
-      go false digit t u small = absurd (omega arith)
+          → cond inside (cond digit (Some (get_or text at 0 - 48)) None) None ≡ Some d
+          → (at < length text) × (is_digit (get_or text at 0) ≡ true) × (d ≡ get_or text at 0 - 48)
+      go true true t u is = (ltb-true at (length text) t, u, cc)
+      go true false t u is = absurd (cc)
+      go false digit t u is = absurd (cc)
 
-  pub no_digit : 9 < digit_at text at → digits_of (drop at text) ≡ []
-  unfolding digit_at digits_of is_digit between
+  pub no_digit : digit_at text at ≡ None → digits_of (drop at text) ≡ []
+  unfolding digit_at digits_of
   no_digit h = go (ltb at (length text)) (is_digit (get_or text at 0)) refl refl h
     where
       go : (inside digit : Bool) → ltb at (length text) ≡ inside → is_digit (get_or text at 0) ≡ digit
-          → 9 < cond inside (cond digit (get_or text at 0 - 48) 10) 10 → digits_of (drop at text) ≡ []
-      go true true t u large =
-          absurd
-          (omega (arith, leb-true (get_or text at 0) 57 (and_right (leb 48 (get_or text at 0)) (leb (get_or text at 0) 57) u)))
-      go true false t u large = ap digits_of (drop-cons text at 0 (ltb-true at (length text) t)) ∙ rw u
-      go false digit t u large = ap digits_of (drop_of_length-le text (ltb-false at (length text) t))
+          → cond inside (cond digit (Some (get_or text at 0 - 48)) None) None ≡ None → digits_of (drop at text) ≡ []
+      go true true t u is = absurd (cc)
+      go true false t u is = ap digits_of (drop-cons text at 0 (ltb-true at (length text) t)) ∙ rw u
+      go false digit t u is = ap digits_of (drop_of_length-le text (ltb-false at (length text) t))
 
 -- ---- a digit more
 
@@ -162,11 +165,11 @@ begun text at h =
     }
 
 -- one digit more
-pub begun_more : {text : List ℕ} {at end value : ℕ} → Begun text at end value → digit_at text end ≤ 9
-    → Begun text at (end + 1) (grown value (digit_at text end))
+pub begun_more : {text : List ℕ} {at end value : ℕ} (d : ℕ) → Begun text at end value → digit_at text end ≡ Some d → d ≤ 9
+    → Begun text at (end + 1) (grown value d)
 unfolding decimal digits_of
-begun_more {text} {at} {end} {value} h small =
-    let here = a_digit text end small in
+begun_more {text} {at} {end} {value} d h is small =
+    let here = a_digit text end d is in
     let more = slice_more text at end h.rises here.0 in
     record {
       rises = omega (arith, h.rises);
@@ -175,8 +178,8 @@ begun_more {text} {at} {end} {value} h small =
           subst (λ (j : ℕ). all is_digit (slice at j text) ≡ true) (sym (add-one end))
           (ap (all is_digit) more ∙ all_more (slice at end text) (get_or text end 0) h.digits here.1);
       valued =
-          ap (λ (v : ℕ). grown v (digit_at text end)) h.valued
-          ∙ grown_capped (decimal (slice at end text)) (digit_at text end) small
+          ap (λ (v : ℕ). grown v d) h.valued
+          ∙ grown_capped (decimal (slice at end text)) d small
           ∙ ap (λ (d : ℕ). capped (10 * decimal (slice at end text) + d)) here.2
           ∙ ap capped (sym (decimal_more 0 (slice at end text) (get_or text end 0)))
           ∙ ap (λ (w : List ℕ). capped (decimal w)) (sym more)
@@ -191,7 +194,7 @@ begun_more {text} {at} {end} {value} h small =
     }
 
 -- no digit more
-pub begun_whole : {text : List ℕ} {at end value : ℕ} → Begun text at end value → 9 < digit_at text end
+pub begun_whole : {text : List ℕ} {at end value : ℕ} → Begun text at end value → digit_at text end ≡ None
     → slice at end text ≡ digits_of (drop at text)
-begun_whole {text} {at} {end} h large =
-    sym (append-nil (slice at end text)) ∙ ap (λ (w : List ℕ). slice at end text ++ w) (sym (no_digit text end large)) ∙ sym h.whole
+begun_whole {text} {at} {end} h none =
+    sym (append-nil (slice at end text)) ∙ ap (λ (w : List ℕ). slice at end text ++ w) (sym (no_digit text end none)) ∙ sym h.whole

@@ -1,7 +1,7 @@
 -- Lines of numbers, read from the front: what a number at a place and the byte after it say of the line that starts there.
 use Prim.Native.Nat.{ℕ, suc, ◌+◌, ◌≤◌, ◌<◌}
 use Rattle.std.proofs.Common.{arith, add-one, sym, ◌∙◌, length-append, drop_of_length-le, drop-cons, drop-drop}
-use Rattle.std.specs.Prelude.{◌≡◌, refl, Bool, true, false, not, ◌&&◌, cond, drop, eqb}
+use Rattle.std.specs.Prelude.{◌≡◌, refl, Bool, true, false, not, ◌&&◌, cond, drop, eqb, Option, Some, None}
 use Rattle.std.proofs.Math.Path.{ap}
 use mathlib.Core.List.{List, [], ◌∷◌, ◌++◌, append-nil}
 use Rattle.std.proofs.Math.ListN.{length, get_or}
@@ -15,9 +15,9 @@ use Rattle.laws.specs.Basics.{and_left, and_right}
 use Rattle.lines.specs.declared.number.Number.{Number}
 use Rattle.lines.specs.Numbers.{digits_of, span, Stands}
 
--- where the line after one of so many numbers starts; 0 where it is not ended or not so
-unfoldable pub line_past : ℕ → List ℕ → ℕ → ℕ
-line_past width text at = cond (ended text at && of_numbers width (line_at text at)) (next_line text at) 0
+-- where the line after one of so many numbers starts; none where it is not ended or not so
+unfoldable pub line_past : ℕ → List ℕ → ℕ → Option ℕ
+line_past width text at = cond (ended text at && of_numbers width (line_at text at)) (Some (next_line text at)) None
 
 -- ---- one byte that is not a newline
 

@@ -1,6 +1,6 @@
 -- Where the line after one of so many numbers starts, number by number.
-use Rattle.std.specs.Prelude.{ℕ, zero, suc, ◌+◌, ◌-◌, ◌≤◌, ◌<◌, ◌≡◌, refl, ◌⊎◌, Bool, true, false, ◌&&◌, List, [], ◌∷◌, length, get_or, drop, eqb}
-use Rattle.std.proofs.Common.{arith, sym, ap, ◌∙◌, inl, inr, eq-eqb, ne_eqb, eqb-true}
+use Rattle.std.specs.Prelude.{ℕ, zero, suc, ◌+◌, ◌-◌, ◌≤◌, ◌<◌, ◌≡◌, refl, ◌⊎◌, Bool, true, false, ◌&&◌, List, [], ◌∷◌, length, get_or, drop, eqb, ltb, Option, Some, None, IfSome, option_and_then}
+use Rattle.std.proofs.Common.{arith, sym, ap, ◌∙◌, inl, inr, eq-eqb, ne_eqb, eqb-true, ltb-true, ltb-false}
 use Rattle.std.proofs.lemmas.Bool.{eqb-false}
 use Rattle.meaning.specs.Clauses.{all}
 use Rattle.meaning.specs.Lines.{newline, space, line_at, ended, words, is_empty, is_number, of_numbers}
@@ -14,7 +14,7 @@ and_false true = refl
 and_false false = refl
 
 -- a line that is not of numbers
-none_past : (width : ℕ) (text : List ℕ) (at : ℕ) → of_numbers width (line_at text at) ≡ false → line_past width text at ≡ 0
+none_past : (width : ℕ) (text : List ℕ) (at : ℕ) → of_numbers width (line_at text at) ≡ false → line_past width text at ≡ None
 unfolding line_past
 none_past width text at h = rw (h, and_false (ended text at))
 
@@ -61,12 +61,12 @@ module _ (text : List ℕ) (at : ℕ) (x : Number) (stands : Stands text x) (sta
   some_digits h =
       rw (not_empty (span text x) (λ e. h (omega (arith, long text at x stands start whole, e)))) stands.digits
 
-  pub past_cut : (width : ℕ) → length text ≤ x.end → line_past width text at ≡ 0
+  pub past_cut : (width : ℕ) → length text ≤ x.end → line_past width text at ≡ None
   unfolding line_past
   past_cut width h = rw (number_cut text at x stands start whole h)
 
   module _ (inside : x.end < length text) where
-    pub past_empty : (width : ℕ) → x.end ≡ at → line_past width text at ≡ 0
+    pub past_empty : (width : ℕ) → x.end ≡ at → line_past width text at ≡ None
     past_empty width h = none_past width text at (not_numbers width (line_at text at) (go (bool_cases (eqb (get_or text x.end 0) newline)) (bool_cases (eqb (get_or text x.end 0) space))))
       where
         none : span text x ≡ []
@@ -81,13 +81,13 @@ module _ (text : List ℕ) (at : ℕ) (x : Number) (stands : Stands text x) (sta
             ap (all is_number) (words_space text at x stands start whole inside (eqb-true _ _ u)) ∙ empty_first (span text x) _ none
         go (inr t) (inr u) = words_other text at x stands start whole inside (eqb-false _ _ t) (eqb-false _ _ u)
 
-    pub past_last : (left : ℕ) → left ≡ 1 → (x.end ≡ at → ⊥) → get_or text x.end 0 ≡ newline → line_past left text at ≡ x.end + 1
+    pub past_last : (left : ℕ) → left ≡ 1 → (x.end ≡ at → ⊥) → get_or text x.end 0 ≡ newline → line_past left text at ≡ Some (x.end + 1)
     unfolding line_past of_numbers all
     past_last left one some is =
         rw (one, ended_last text at x stands start whole inside is, words_last text at x stands start whole inside is, some_digits some)
-        (next_last text at x stands start whole inside is)
+        (ap Some (next_last text at x stands start whole inside is))
 
-    pub past_not_last : (left : ℕ) → left ≡ 1 → (get_or text x.end 0 ≡ newline → ⊥) → line_past left text at ≡ 0
+    pub past_not_last : (left : ℕ) → left ≡ 1 → (get_or text x.end 0 ≡ newline → ⊥) → line_past left text at ≡ None
     past_not_last left one other =
         ap (λ (k : ℕ). line_past k text at) one ∙ go (bool_cases (eqb (get_or text x.end 0) space))
       where
@@ -96,7 +96,7 @@ module _ (text : List ℕ) (at : ℕ) (x : Number) (stands : Stands text x) (sta
             let on = first_word l in
             omega (arith, ap length e, ap length on.2, one)
 
-        go : (eqb (get_or text x.end 0) space ≡ true) ⊎ (eqb (get_or text x.end 0) space ≡ false) → line_past 1 text at ≡ 0
+        go : (eqb (get_or text x.end 0) space ≡ true) ⊎ (eqb (get_or text x.end 0) space ≡ false) → line_past 1 text at ≡ None
         go (inl t) =
             none_past 1 text at
             (not_so_many 1 (line_at text at)
@@ -123,11 +123,11 @@ module _ (text : List ℕ) (at : ℕ) (x : Number) (stands : Stands text x) (sta
     past_space (suc zero) least more some is = absurd (more refl)
     past_space zero least more some is = absurd (omega arith)
 
-    no_space : (width : ℕ) → (get_or text x.end 0 ≡ space → ⊥) → line_past (suc (suc width)) text at ≡ 0
+    no_space : (width : ℕ) → (get_or text x.end 0 ≡ space → ⊥) → line_past (suc (suc width)) text at ≡ None
     no_space width other = go (bool_cases (eqb (get_or text x.end 0) newline))
       where
         go : (eqb (get_or text x.end 0) newline ≡ true) ⊎ (eqb (get_or text x.end 0) newline ≡ false)
-            → line_past (suc (suc width)) text at ≡ 0
+            → line_past (suc (suc width)) text at ≡ None
         go (inl t) =
             none_past (suc (suc width)) text at
             (not_so_many (suc (suc width)) (line_at text at)
@@ -137,7 +137,57 @@ module _ (text : List ℕ) (at : ℕ) (x : Number) (stands : Stands text x) (sta
             (not_numbers (suc (suc width)) (line_at text at)
             (words_other text at x stands start whole inside (eqb-false _ _ t) other))
 
-    pub past_no_space : (left : ℕ) → 1 ≤ left → (left ≡ 1 → ⊥) → (get_or text x.end 0 ≡ space → ⊥) → line_past left text at ≡ 0
+    pub past_no_space : (left : ℕ) → 1 ≤ left → (left ≡ 1 → ⊥) → (get_or text x.end 0 ≡ space → ⊥) → line_past left text at ≡ None
     past_no_space (suc (suc width)) least more other = no_space width other
     past_no_space (suc zero) least more other = absurd (more refl)
     past_no_space zero least more other = absurd (omega arith)
+
+-- ---- a number and the byte after it
+
+-- the place past both, where that byte is this one: a space says what the rest of the line says, and a newline ends it
+pub record PastNumber (text : List ℕ) (at byte : ℕ) (r : Option ℕ) : Type 0 where
+  pub spaced : byte ≡ space → (left : ℕ) → option_and_then (line_past (suc left) text) r ≡ line_past (suc (suc left)) text at
+  pub closed : byte ≡ newline → r ≡ line_past 1 text at
+  pub inside : IfSome r (λ next. next ≤ length text)
+
+module _ (text : List ℕ) (at byte : ℕ) where
+  -- no such number or no such byte
+  not_there : (byte ≡ space → (left : ℕ) → line_past (suc (suc left)) text at ≡ None) → (byte ≡ newline → line_past 1 text at ≡ None)
+      → PastNumber text at byte None
+  not_there more last =
+      record { spaced = λ e left. sym (more e left); closed = λ e. sym (last e); inside = tt }
+
+  module _ (x : Number) (stands : Stands text x) (start : x.start ≡ at) (whole : span text x ≡ digits_of (drop at text)) where
+    pub number_missing : x.end ≡ at → at ≤ length text → PastNumber text at byte None
+    number_missing none in_text = go (ltb x.end (length text)) refl
+      where
+        go : (b : Bool) → ltb x.end (length text) ≡ b → PastNumber text at byte None
+        go true t =
+            let inside = ltb-true x.end (length text) t in
+            not_there (λ e left. past_empty text at x stands start whole inside (suc (suc left)) none)
+            (λ e. past_empty text at x stands start whole inside 1 none)
+        go false t =
+            let cut = ltb-false x.end (length text) t in
+            not_there (λ e left. past_cut text at x stands start whole (suc (suc left)) cut)
+            (λ e. past_cut text at x stands start whole 1 cut)
+
+    pub number_last : length text ≤ x.end → PastNumber text at byte None
+    number_last cut =
+        not_there (λ e left. past_cut text at x stands start whole (suc (suc left)) cut)
+        (λ e. past_cut text at x stands start whole 1 cut)
+
+    module _ (inside : x.end < length text) where
+      pub number_before : (get_or text x.end 0 ≡ byte → ⊥) → PastNumber text at byte None
+      number_before other =
+          not_there
+          (λ e left.
+          past_no_space text at x stands start whole inside (suc (suc left)) (omega arith) (λ o. omega (arith, o)) (λ o. other (o ∙ sym e)))
+          (λ e. past_not_last text at x stands start whole inside 1 refl (λ o. other (o ∙ sym e)))
+
+      pub number_past : (x.end ≡ at → ⊥) → get_or text x.end 0 ≡ byte → PastNumber text at byte (Some (x.end + 1))
+      number_past some is =
+          record {
+            spaced = λ e left. sym (one_less text at x stands start whole inside left some (is ∙ e));
+            closed = λ e. sym (past_last text at x stands start whole inside 1 refl some (is ∙ e));
+            inside = omega arith;
+          }

@@ -6,7 +6,9 @@ use Rattle.std.proofs.Common.{add-mul, sym, ap, subst, ◌∙◌, get_or-drop, g
 use Rattle.std.proofs.Math.Seq.{length-slice}
 use Rattle.meaning.specs.Lines.{is_digit}
 use Rattle.lines.specs.declared.number.Number.{Number}
-use Rattle.lines.specs.Numbers.{span, worth, Stands, digit_at, digit_of_digit}
+use Rattle.std.specs.declared.cmp.Ordering.{Ordering}
+use Rattle.std.specs.declared.cmp.Ordering.TheVariants.{Equal, Greater}
+use Rattle.lines.specs.Numbers.{span, worth, Stands}
 use Rattle.lines.specs.Tails.{ten, tail, tail_none, tail_all, tail_more, digit_from, from_small, at_digit}
 use Rattle.lines.specs.Order.{order, Compared, compared_none, compared_more, compared_over, compared_all, next_seen}
 
@@ -24,7 +26,7 @@ unfolding digit_from
 from_past text x h p past = rw (le-ltb p (length (span text x)) (subst (λ (k : ℕ). k ≤ p) (sym (count_is text x h)) past))
 
 pub from_at : (text : List ℕ) (x : Number) → Stands text x → (p : ℕ) → p < digit_count x
-    → digit_from (span text x) p ≡ digit_at text (x.end - 1 - p)
+    → (digit_from (span text x) p ≡ get_or text (x.end - 1 - p) 0 - 48) × (is_digit (get_or text (x.end - 1 - p) 0) ≡ true)
 unfolding digit_from digit_count span
 from_at text x h p below =
     let e = x.end in
@@ -39,7 +41,7 @@ from_at text x h p below =
     let same : get_or (span text x) j 0 ≡ get_or text (e - 1 - p) 0 =
     get_or-drop x.start (take e text) j 0 ∙ ap (λ (k : ℕ). get_or (take e text) k 0) spot ∙ get_or-take e text (e - 1 - p) 0 spot_below in
     let digit = subst (λ (b : ℕ). is_digit b ≡ true) same (at_digit (span text x) j h.digits j_in) in
-    rw (lt-ltb p len inside) (ap (λ (b : ℕ). b - 48) same ∙ sym (digit_of_digit text (e - 1 - p) spot_in digit))
+    (rw (lt-ltb p len inside) (ap (λ (b : ℕ). b - 48) same), digit)
 
 -- ---- the sum of three, compared with a fourth
 
@@ -50,10 +52,10 @@ module _ (text : List ℕ) (a b c m : Number) (carry : ℕ) where
   unfoldable pub sum_to : ℕ → ℕ
   sum_to p = tail (span text a) p + tail (span text b) p + tail (span text c) p + carry
 
-  abbrev pub ComparedTo : ℕ → ℕ → ℕ → Type 0
+  abbrev pub ComparedTo : ℕ → ℕ → Ordering → Type 0
   ComparedTo p over seen = Compared (sum_to p) (tail (span text m) p) (ten p) over seen
 
-  pub none_read : ComparedTo 0 carry 1
+  pub none_read : ComparedTo 0 carry Equal
   unfolding sum_to
   none_read =
       rw (tail_none (span text a), tail_none (span text b), tail_none (span text c), tail_none (span text m)) (compared_none carry)
@@ -74,7 +76,7 @@ module _ (text : List ℕ) (a b c m : Number) (carry : ℕ) where
           spread,
         )
 
-    pub read_more : (p over seen da db dc d : ℕ) → ComparedTo p over seen → da ≡ digit_from (span text a) p
+    pub read_more : (p over : ℕ) (seen : Ordering) (da db dc d : ℕ) → ComparedTo p over seen → da ≡ digit_from (span text a) p
         → db ≡ digit_from (span text b) p → dc ≡ digit_from (span text c) p → d ≡ digit_from (span text m) p
         → ComparedTo (p + 1) ((da + db + dc + over) / 10) (next_seen ((da + db + dc + over) % 10) d seen)
     unfolding ten
@@ -84,7 +86,7 @@ module _ (text : List ℕ) (a b c m : Number) (carry : ℕ) where
         (from_small (span text m) sm.digits p))
 
     -- all digits are read
-    module _ (p over seen : ℕ) (h : ComparedTo p over seen) (la : digit_count a ≤ p) (lb : digit_count b ≤ p) (lc : digit_count c ≤ p)
+    module _ (p over : ℕ) (seen : Ordering) (h : ComparedTo p over seen) (la : digit_count a ≤ p) (lb : digit_count b ≤ p) (lc : digit_count c ≤ p)
         (lm : digit_count m ≤ p) where
       within : (x : Number) → Stands text x → digit_count x ≤ p → tail (span text x) p ≡ worth text x
       unfolding worth
@@ -94,7 +96,7 @@ module _ (text : List ℕ) (a b c m : Number) (carry : ℕ) where
       unfolding sum_to
       all_read = rw (within a sa la, within b sb lb, within c sc lc, within m sm lm)
 
-      pub over_is : 0 < over → 2 ≡ order (worth text a + worth text b + worth text c + carry) (worth text m)
+      pub over_is : 0 < over → Greater ≡ order (worth text a + worth text b + worth text c + carry) (worth text m)
       over_is more = compared_over (sum_to p) (tail (span text m) p) (ten p) over seen h more ∙ all_read
 
       pub seen_is : over ≡ 0 → seen ≡ order (worth text a + worth text b + worth text c + carry) (worth text m)

@@ -4,8 +4,8 @@ ghost use Rattle.meaning.specs.Circuit.{var};
 ghost use Rattle.meaning.specs.CircuitText.{used_right};
 ghost use Rattle.lines.specs.Numbers.{Stands, worth};
 
-use crate::compare::compare;
-use crate::number::{Number, digit_at};
+use crate::compare::{compare, is_sum};
+use crate::number::Number;
 
 // The last digit says it.
 pub fn is_even(text: &[u8], x: Number) -> bool
@@ -13,8 +13,7 @@ pub fn is_even(text: &[u8], x: Number) -> bool
     requires start_lt_end { x.start < x.end }
     ensures { result ≡ eqb (worth text.now x % 2) 0 }
 {
-    let end = x.end;
-    digit_at(text, end - 1) % 2 == 0
+    text[x.end - 1] % 2 == 0
 }
 
 // A literal that is used is 0 to 2M+1.
@@ -26,13 +25,12 @@ pub fn used_right(text: &[u8], m: Number, l: Number) -> bool
     if l.value < Number::HUGE {
         return l.value / 2 <= m.value;
     }
-    let at = l.start;
     let none = Number {
-        start: at,
-        end: at,
+        start: l.start,
+        end: l.start,
         value: 0,
     };
-    compare(text, m, m, none, 1, l) != 0
+    compare(text, m, m, none, 1, l).is_ge()
 }
 
 // Whether two literals have the same variable.
@@ -41,16 +39,12 @@ pub fn same_variable(text: &[u8], a: Number, b: Number) -> bool
     requires stands_2 { Stands text.now b }
     ensures { result ≡ eqb (var (worth text.now a)) (var (worth text.now b)) }
 {
-    if a.value < Number::HUGE {
-        if b.value < Number::HUGE {
-            return a.value / 2 == b.value / 2;
-        }
-        return false;
+    match (a.value < Number::HUGE, b.value < Number::HUGE) {
+        (true, true) => a.value / 2 == b.value / 2,
+        (true, false) => false,
+        (false, true) => false,
+        (false, false) => same_far(text, a, b),
     }
-    if b.value < Number::HUGE {
-        return false;
-    }
-    same_far(text, a, b)
 }
 
 // The same where neither value fits a word.
@@ -61,20 +55,11 @@ fn same_far(text: &[u8], a: Number, b: Number) -> bool
     requires start_lt_end_2 { b.start < b.end }
     ensures { result ≡ eqb (var (worth text.now a)) (var (worth text.now b)) }
 {
-    let at = a.start;
-    let none = Number {
-        start: at,
-        end: at,
-        value: 0,
-    };
-    if compare(text, a, none, none, 0, b) == 1 {
+    if is_sum(text, a, 0, b) {
         return true;
     }
     if is_even(text, a) {
-        return compare(text, a, none, none, 1, b) == 1;
+        return is_sum(text, a, 1, b);
     }
-    if is_even(text, b) {
-        return compare(text, b, none, none, 1, a) == 1;
-    }
-    false
+    is_even(text, b) && is_sum(text, b, 1, a)
 }

@@ -1,5 +1,5 @@
 // A number where it stands in a text.
-ghost use Rattle.std.specs.Prelude.{◌≡◌, ◌<◌, ◌≤◌, length, drop};
+ghost use Rattle.std.specs.Prelude.{◌≡◌, ◌≤◌, length, drop, IfSome};
 ghost use Rattle.lines.specs.Numbers.{digit_at, grown, Stands, span, digits_of};
 
 // The place of its digits, and its value; HUGE stands for every value from there on.
@@ -15,27 +15,14 @@ impl Number {
     pub const HUGE: usize = 18446744073709551610;
 }
 
-fn wide(b: u8) -> usize
-    ensures { (result ≡ b) × (result < 256) }
+// The digit at a place, if one stands there.
+pub fn digit_at(text: &[u8], at: usize) -> Option<usize>
+    ensures { (result ≡ digit_at text.now at) × IfSome result (λ d. d ≤ 9) }
 {
-    b as usize
-}
-
-// What the byte at a place is worth as a digit: 10 where it is none, or where the text has ended.
-pub fn digit_at(text: &[u8], at: usize) -> usize
-    ensures { (result ≡ digit_at text.now at) × (result ≤ 10) }
-{
-    if text.len() <= at {
-        return 10;
+    if text.len() <= at || !text[at].is_ascii_digit() {
+        return None;
     }
-    let b = wide(text[at]);
-    if b < 48 {
-        return 10;
-    }
-    if 57 < b {
-        return 10;
-    }
-    b - 48
+    Some(usize::from(text[at] - b'0'))
 }
 
 // One digit more: what is huge stays huge.
@@ -56,16 +43,13 @@ pub fn number_at(text: &[u8], at: usize) -> Number
 {
     let mut end = at;
     let mut value: usize = 0;
-    loop {
-        let digit = digit_at(text, end);
-        if 9 < digit {
-            return Number {
-                start: at,
-                end,
-                value,
-            };
-        }
+    while let Some(digit) = digit_at(text, end) {
         value = grown(value, digit);
         end += 1;
+    }
+    Number {
+        start: at,
+        end,
+        value,
     }
 }

@@ -1,7 +1,9 @@
-use mathlib.Core.Path.{subst⁻¹}
+use mathlib.Core.Path.{subst⁻¹, ap, ◌∙◌}
+use Rattle.std.specs.declared.cmp.Ordering.{Ordering}
+use Rattle.std.specs.Ordering.{ordering_then}
 use native.Mathlib.Omega.{arith}
 use Rattle.lines.specs.Sums.{none_read, read_more, over_is, seen_is}
-use Rattle.lines.specs.Order.{Compared}
+use Rattle.lines.specs.Order.{Compared, then_seen}
 use Rattle.lines.proofs.compare.compare.Goals as goal
 
 pub loop-p-init : goal.loop-p-init
@@ -11,7 +13,8 @@ pub loop-p-preserved : goal.loop-p-preserved
 loop-p-preserved c =
     let start = c.requires in
     let h = c.loop-p.invariant in (
-      subst⁻¹ (Compared _ _ _ _) c.next_seen-seen.ensures
+      subst⁻¹ (Compared _ _ _ _)
+          (c.then-seen.ensures ∙ ap (λ (o : Ordering). ordering_then o c.loop-p.seen) c.cmp.ensures ∙ then_seen _ _ _)
           (read_more _ _ _ _ _ _ start.stands start.stands_2 start.stands_3 start.stands_4 _ _ _ _ _ _ _ h.0
           c.digit_from.ensures.0
           c.digit_from-in-loop-p.ensures.0

@@ -1,4 +1,4 @@
-use Prim.Native.Nat.{◌-◌, ◌≤◌}
+use Prim.Native.Nat.{◌≤◌}
 use Rattle.lines.specs.Sums.{ComparedTo}
 use Rattle.lines.proofs.compare.compare.Given as goal
 

@@ -4,8 +4,8 @@ use lib.ListN.{length}
 use Rattle.lines.specs.Numbers.{Begun}
 use Rattle.lines.proofs.number.number_at.Given as goal
 
-abbrev pub invariant-loop-at : goal.invariant-loop-at
-invariant-loop-at l = Begun l.text l.at l.end l.value
+abbrev pub invariant-loop-digit : goal.invariant-loop-digit
+invariant-loop-digit l = Begun l.text l.at l.end l.value
 
-abbrev pub decreases-loop-at : goal.decreases-loop-at
-decreases-loop-at l = length l.text - l.end
+abbrev pub decreases-loop-digit : goal.decreases-loop-digit
+decreases-loop-digit l = length l.text - l.end
