@@ -1,7 +1,7 @@
 -- So many lines from a place on, whatever they hold; what each starts with where it is a line of numbers.
 use Prim.Native.Nat.{ℕ, zero, suc, ◌+◌, ◌-◌, ◌≤◌, ◌<◌}
-use Rattle.std.proofs.Common.{arith, sym, subst, ◌∙◌, inl, inr, true≢false, lt-ltb, ltb-true, ltb-false, eqb-true}
-use Rattle.std.specs.Prelude.{◌≡◌, ◌⊎◌, Bool, true, false, ◌||◌, cond, length, drop, ltb, eqb}
+use Rattle.std.proofs.Common.{arith, sym, subst, ◌∙◌, inl, inr, true≢false, lt-ltb, le-ltb, ltb-true, ltb-false, eqb-true}
+use Rattle.std.specs.Prelude.{◌≡◌, ◌⊎◌, Bool, true, false, ◌||◌, cond, length, drop, ltb, eqb, Option, Some, None, is_some}
 use Rattle.std.proofs.Math.Path.{refl, ap}
 use mathlib.Core.List.{List, [], ◌∷◌, ◌++◌, map, append-nil}
 use Rattle.std.proofs.Math.ListN.{get_or}
@@ -45,6 +45,35 @@ unfoldable pub variables_of : List ℕ → Lines → List ℕ
 variables_of text s = defined_in (first_lines text s.at s.count)
 
 -- ---- positions
+
+-- the position of a variable among some, if it is one of them
+unfoldable pub found_at : ℕ → List ℕ → Option ℕ
+found_at u us = cond (among u us) (Some (position u us)) None
+
+pub found_among : (u : ℕ) (us : List ℕ) → is_some (found_at u us) ≡ among u us
+unfolding found_at
+found_among u us = go (among u us)
+  where
+    go : (b : Bool) → is_some (cond b (Some (position u us)) None) ≡ b
+    go true = refl
+    go false = refl
+
+-- what finding one, or none, says
+pub found_some : (u : ℕ) (us : List ℕ) (i : ℕ) → Some i ≡ found_at u us → (among u us ≡ true) × (i ≡ position u us)
+unfolding found_at
+found_some u us i is = go (among u us) refl is
+  where
+    go : (b : Bool) → among u us ≡ b → Some i ≡ cond b (Some (position u us)) None → (among u us ≡ true) × (i ≡ position u us)
+    go true t e = (t, cc)
+    go false t e = absurd (cc)
+
+pub found_none : (u : ℕ) (us : List ℕ) → None ≡ found_at u us → among u us ≡ false
+unfolding found_at
+found_none u us is = go (among u us) refl is
+  where
+    go : (b : Bool) → among u us ≡ b → None ≡ cond b (Some (position u us)) None → among u us ≡ false
+    go true t e = absurd (cc)
+    go false t e = t
 
 pub among_position : (u : ℕ) (us : List ℕ) → ltb (position u us) (length us) ≡ among u us
 unfolding position among any
@@ -166,3 +195,14 @@ defines_is text s u r is =
     ap (λ (k : ℕ). ltb k s.count) is
     ∙ ap (ltb (position u (variables_of text s))) (sym (variables_length text s))
     ∙ among_position u (variables_of text s)
+
+-- the position below the number of lines is where it is found
+pub found_below : (text : List ℕ) (s : Lines) (u i : ℕ) → i ≡ position u (variables_of text s) → i < s.count
+    → Some i ≡ found_at u (variables_of text s)
+unfolding found_at
+found_below text s u i is less = sym (rw (sym (defines_is text s u i is) ∙ lt-ltb i s.count less) (ap Some (sym is)))
+
+pub found_past : (text : List ℕ) (s : Lines) (u i : ℕ) → i ≡ position u (variables_of text s) → s.count ≤ i
+    → None ≡ found_at u (variables_of text s)
+unfolding found_at
+found_past text s u i is past = sym (rw (sym (defines_is text s u i is) ∙ le-ltb i s.count past))

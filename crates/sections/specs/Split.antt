@@ -125,6 +125,11 @@ pub record Ranged (text : List ℕ) (m end left p i : ℕ) : Type 0 where
   pub is : all (used_right m) (numbers_after text end left) ≡ all (used_right m) (numbers_after text p i)
   pub rest : Rest text p i
 
+pub ranged_start : {text : List ℕ} {m end : ℕ} (left : ℕ) → Rest text end left → Ranged text m end left end (left - 0)
+ranged_start {text} {m} {end} left r =
+    let all_left : left ≡ left - 0 = omega arith in
+    record { is = ap (λ (k : ℕ). all (used_right m) (numbers_after text end k)) all_left; rest = subst (Rest text end) all_left r }
+
 pub ranged_place : {text : List ℕ} {m end left p : ℕ} (i : ℕ) → 0 < i → Ranged text m end left p i → p < length text
 ranged_place zero less r = absurd (omega arith)
 ranged_place (suc i) less r = r.rest.0

@@ -16,10 +16,8 @@ pub fn nth(text: &[u8], at: usize, j: usize) -> Number
     ensures { Stands text.now result × (worth text.now result ≡ get_or (numbers_at text.now at) j 0) × (result.start < result.end) }
 {
     let mut x = number_at(text, at);
-    let mut i: usize = 0;
-    while i < j {
+    for _ in 0..j {
         x = number_at(text, x.end + 1);
-        i += 1;
     }
     x
 }
