@@ -1,19 +1,21 @@
 -- Literals of a circuit as numbers of a text: their range, and whether two have the same variable.
-use Rattle.std.specs.Prelude.{ℕ, suc, ◌+◌, ◌-◌, ◌*◌, ◌/◌, ◌%◌, ◌≤◌, ◌<◌, ◌≡◌, refl, ◌⊎◌, Bool, true, false, ◌&&◌, cond, List, [], ◌∷◌, ◌++◌, length, get_or, ltb, leb, eqb}
+use Rattle.std.specs.Prelude.{ℕ, suc, ◌+◌, ◌-◌, ◌*◌, ◌/◌, ◌%◌, ◌≤◌, ◌<◌, ◌≡◌, refl, ◌⊎◌, Bool, true, false, cond, List, [], ◌∷◌, ◌++◌, length, get_or, take, leb, eqb}
 use Rattle.std.proofs.Common.{arith, sym, subst, ◌∙◌, inl, inr}
 use Rattle.std.proofs.Math.Path.{ap}
-use Rattle.std.proofs.Math.Seq.{slice, slice_empty}
-use borrow.Author.Tests.{ltb-true, ltb-false, le-leb, lt-leb, eq-eqb, ne_eqb, leb-true, leb-false, eqb-true, eqb-false}
+use Rattle.std.proofs.Math.Seq.{take-suc, take-length}
+use borrow.Author.Tests.{le-leb, lt-leb, eq-eqb, ne_eqb, leb-true, leb-false, eqb-true, eqb-false}
 use Rattle.meaning.specs.Clauses.{all}
 use Rattle.meaning.specs.File.{between}
 use Rattle.meaning.specs.Lines.{is_digit, decimal, decimal_on}
 use Rattle.meaning.specs.Circuit.{var}
 use Rattle.meaning.specs.CircuitText.{used_right}
-use Rattle.laws.specs.Basics.{bool_cases, and_left, and_right, all_append}
+use Rattle.laws.specs.Basics.{bool_cases, and_left}
 use Rattle.lines.specs.declared.number.Number.{Number}
-use Rattle.lines.specs.Numbers.{huge, capped, span, worth, Stands, slice_more, decimal_more}
+use Rattle.lines.specs.Digits.{huge, capped, decimal_more}
+use Rattle.lines.specs.Numbers.{worth}
 use Rattle.std.specs.declared.cmp.Ordering.{Ordering}
 use Rattle.std.specs.Ordering.{is_eq, is_ge}
+use Rattle.lines.specs.Tails.{at_digit}
 use Rattle.lines.specs.Order.{order, order_less, order_same, order_more, order_cases}
 
 -- ---- what a capped value says
@@ -35,34 +37,28 @@ capped_huge v h = go (leb huge v) refl h
     go false t most = most
 
 -- below the bound the value is the number
-module _ (text : List ℕ) (x : Number) (h : Stands text x) where
-  pub value_below : x.value < huge → x.value ≡ worth text x
-  value_below less = h.value ∙ capped_below (worth text x) (subst (λ (v : ℕ). v < huge) h.value less)
+module _ (x : Number) where
+  pub value_below : x.value < huge → x.value ≡ worth x
+  unfolding worth
+  value_below less = x.valued ∙ capped_below (worth x) (subst (λ (v : ℕ). v < huge) x.valued less)
 
-  pub value_huge : huge ≤ x.value → huge ≤ worth text x
-  value_huge most = capped_huge (worth text x) (subst (λ (v : ℕ). huge ≤ v) h.value most)
+  pub value_huge : huge ≤ x.value → huge ≤ worth x
+  unfolding worth
+  value_huge most = capped_huge (worth x) (subst (λ (v : ℕ). huge ≤ v) x.valued most)
 
   -- a number over the bound has digits
-  pub huge_some : huge ≤ x.value → x.start < x.end
-  unfolding worth span decimal decimal_on
-  huge_some most = go (bool_cases (ltb x.start x.end))
+  pub huge_some : huge ≤ x.value → 0 < length x.digits.now
+  unfolding worth decimal decimal_on
+  huge_some most = go x.digits.now refl
     where
-      go : (ltb x.start x.end ≡ true) ⊎ (ltb x.start x.end ≡ false) → x.start < x.end
-      go (inl t) = ltb-true x.start x.end t
-      go (inr t) =
-          let same : x.start ≡ x.end = omega (arith, h.rises, ltb-false x.start x.end t) in
-          let none = ap (λ (k : ℕ). slice k x.end text) same ∙ slice_empty x.end text in
-          absurd (omega (arith, value_huge most, ap decimal none))
+      go : (w : List ℕ) → x.digits.now ≡ w → 0 < length w
+      go [] none = absurd (omega (arith, value_huge most, ap decimal none))
+      go (b ∷ w) some = omega arith
 
--- an empty number is worth 0
-pub nothing_stands : (text : List ℕ) (at : ℕ) → at ≤ length text → Stands text (record { start = at; end = at; value = 0 })
-unfolding span worth decimal decimal_on capped all
-nothing_stands text at h =
-    record { rises = omega arith; inside = h; digits = rw (slice_empty at text); value = rw (slice_empty at text) }
-
-pub nothing_worth : (text : List ℕ) (at : ℕ) → worth text (record { start = at; end = at; value = 0 }) ≡ 0
-unfolding span worth decimal decimal_on
-nothing_worth text at = rw (slice_empty at text)
+-- a number with no digits is worth 0
+pub nothing_worth : (x : Number) → x.digits.now ≡ [] → worth x ≡ 0
+unfolding worth decimal decimal_on
+nothing_worth x none = rw none
 
 -- ---- a literal that is used: 0 to 2M+1
 
@@ -101,25 +97,16 @@ pub digit_least : (b : ℕ) → is_digit b ≡ true → 48 ≤ b
 unfolding is_digit between
 digit_least b h = leb-true 48 b (and_left (leb 48 b) (leb b 57) h)
 
-pub last_digit : (text : List ℕ) (x : Number) → Stands text x → x.start < x.end
-    → worth text x % 2 ≡ get_or text (x.end - 1) 0 % 2
-unfolding worth span decimal all
-last_digit text x h some =
-    let e = x.end - 1 in
-    let up : x.end ≡ suc e = omega arith in
-    let in_text : e < length text = omega (arith, h.inside) in
-    let rises : x.start ≤ e = omega arith in
-    let more = ap (λ (k : ℕ). slice x.start k text) up ∙ slice_more text x.start e rises in_text in
-    let w = slice x.start e text in
-    let b = get_or text e 0 in
-    let value = ap decimal more ∙ decimal_more 0 w b in
-    let digit = last_is w b (subst (λ (l : List ℕ). all is_digit l ≡ true) more h.digits) in
-    omega (arith, value, digit_least b digit)
-  where
-    last_is : (w : List ℕ) (b : ℕ) → all is_digit (w ++ (b ∷ [])) ≡ true → is_digit b ≡ true
-    last_is w b all_digits =
-        let both = sym (all_append is_digit w (b ∷ [])) ∙ all_digits in
-        and_left (is_digit b) true (and_right (all is_digit w) (is_digit b && true) both)
+pub last_digit : (w : List ℕ) → all is_digit w ≡ true → 0 < length w → decimal w % 2 ≡ get_or w (length w - 1) 0 % 2
+unfolding decimal
+last_digit w digits some =
+    let e = length w - 1 in
+    let up : length w ≡ suc e = omega arith in
+    let inside : e < length w = omega arith in
+    let b = get_or w e 0 in
+    let more : w ≡ take e w ++ (b ∷ []) = sym (take-length w) ∙ ap (λ (k : ℕ). take k w) up ∙ take-suc w e 0 inside in
+    let value = ap (decimal_on 0) more ∙ decimal_more 0 (take e w) b in
+    omega (arith, value, digit_least b (at_digit w e digits inside))
 
 -- ---- the same variable
 
@@ -133,13 +120,10 @@ is_eq_order a b = go (order_cases a b)
     go (inr (inr h)) = ap is_eq (order_more a b h) ∙ sym (ne_eqb a b (λ e. omega (arith, e, h)))
 
 -- a number and so much more is another, by their order
-pub sum_order : (text : List ℕ) (a at carry b : ℕ) (r : Ordering)
-    → r ≡ order (a + worth text (record { start = at; end = at; value = 0 }) + worth text (record { start = at; end = at; value = 0 }) + carry) b
-    → is_eq r ≡ eqb (a + carry) b
-sum_order text a at carry b r is =
-    let none = nothing_worth text at in
-    let same : a + 0 + 0 + carry ≡ a + carry = omega arith in
-    ap is_eq (is ∙ ap (λ (k : ℕ). order (a + k + k + carry) b) none ∙ ap (λ (k : ℕ). order k b) same) ∙ is_eq_order (a + carry) b
+pub sum_order : (a n k carry b : ℕ) (r : Ordering) → n ≡ 0 → k ≡ 0 → r ≡ order (a + n + k + carry) b → is_eq r ≡ eqb (a + carry) b
+sum_order a n k carry b r n_none k_none is =
+    let same : a + n + k + carry ≡ a + carry = omega arith in
+    ap is_eq (is ∙ ap (λ (j : ℕ). order j b) same) ∙ is_eq_order (a + carry) b
 
 pub same_small : (a b : ℕ) → eqb (a / 2) (b / 2) ≡ eqb (var a) (var b)
 unfolding var
@@ -181,52 +165,49 @@ odd_same a b odd_a odd_b other = ne_eqb (a / 2) (b / 2) (neither (eqb-false (a +
     neither : (a + 0 ≡ b → ⊥) → a / 2 ≡ b / 2 → ⊥
     neither f e = omega arith
 
--- ---- the same, of numbers that stand in a text
+-- ---- the same, of numbers as they are kept
 
-module _ (text : List ℕ) (a b : Number) (sa : Stands text a) (sb : Stands text b) where
-  abbrev none_at : Number → Number
-  none_at x = record { start = x.start; end = x.start; value = 0 }
-
-  pub used_quick : b.value < huge → leb (b.value / 2) a.value ≡ used_right (worth text a) (worth text b)
+module _ (a b : Number) where
+  pub used_quick : b.value < huge → leb (b.value / 2) a.value ≡ used_right (worth a) (worth b)
+  unfolding worth
   used_quick less =
-      let is = value_below text b sb less in
+      let is = value_below b less in
       ap (λ (v : ℕ). leb (v / 2) a.value) is
-      ∙ used_small (worth text a) (worth text b) a.value (sym sa.value) (subst (λ (v : ℕ). v < huge) is less)
+      ∙ used_small (worth a) (worth b) a.value (sym a.valued) (subst (λ (v : ℕ). v < huge) is less)
 
-  pub used_far : (r : Ordering) → r ≡ order (worth text a + worth text a + worth text (none_at b) + 1) (worth text b)
-      → is_ge r ≡ used_right (worth text a) (worth text b)
-  used_far r is = ap is_ge is ∙ used_order (worth text a) (worth text b) (worth text (none_at b)) (nothing_worth text b.start)
+  pub used_far : (n : ℕ) (r : Ordering) → n ≡ 0 → r ≡ order (worth a + worth a + n + 1) (worth b) → is_ge r ≡ used_right (worth a) (worth b)
+  used_far n r none is = ap is_ge is ∙ used_order (worth a) (worth b) n none
 
-  pub same_quick : a.value < huge → b.value < huge → eqb (a.value / 2) (b.value / 2) ≡ eqb (var (worth text a)) (var (worth text b))
+  pub same_quick : a.value < huge → b.value < huge → eqb (a.value / 2) (b.value / 2) ≡ eqb (var (worth a)) (var (worth b))
   unfolding var
-  same_quick la lb = cc (value_below text a sa la, value_below text b sb lb)
+  same_quick la lb = cc (value_below a la, value_below b lb)
 
-  pub same_not : a.value < huge → huge ≤ b.value → eqb (var (worth text a)) (var (worth text b)) ≡ false
+  pub same_not : a.value < huge → huge ≤ b.value → eqb (var (worth a)) (var (worth b)) ≡ false
   same_not la lb =
-      not_same_far (worth text a) (worth text b) (subst (λ (v : ℕ). v < huge) (value_below text a sa la) la) (value_huge text b sb lb)
+      not_same_far (worth a) (worth b) (subst (λ (v : ℕ). v < huge) (value_below a la) la) (value_huge b lb)
 
   -- equal, or not
-  module _ (r : Bool) (is : r ≡ eqb (worth text a + 0) (worth text b)) where
-    pub far_equal : r ≡ true → eqb (var (worth text a)) (var (worth text b)) ≡ true
-    far_equal one = same_if_equal (worth text a) (worth text b) (sym is ∙ one)
+  module _ (r : Bool) (is : r ≡ eqb (worth a + 0) (worth b)) where
+    pub far_equal : r ≡ true → eqb (var (worth a)) (var (worth b)) ≡ true
+    far_equal one = same_if_equal (worth a) (worth b) (sym is ∙ one)
 
     module _ (other : r ≡ false) where
-      pub far_even : eqb (worth text a % 2) 0 ≡ true → (q : Bool) → q ≡ eqb (worth text a + 1) (worth text b)
-          → q ≡ eqb (var (worth text a)) (var (worth text b))
+      pub far_even : eqb (worth a % 2) 0 ≡ true → (q : Bool) → q ≡ eqb (worth a + 1) (worth b)
+          → q ≡ eqb (var (worth a)) (var (worth b))
       far_even even q q_is =
-          q_is ∙ even_same (worth text a) (worth text b) (eqb-true (worth text a % 2) 0 even) (sym is ∙ other)
+          q_is ∙ even_same (worth a) (worth b) (eqb-true (worth a % 2) 0 even) (sym is ∙ other)
 
-      pub far_odd : eqb (worth text a % 2) 0 ≡ false → eqb (worth text b % 2) 0 ≡ false
-          → eqb (var (worth text a)) (var (worth text b)) ≡ false
+      pub far_odd : eqb (worth a % 2) 0 ≡ false → eqb (worth b % 2) 0 ≡ false
+          → eqb (var (worth a)) (var (worth b)) ≡ false
       far_odd odd_a odd_b =
-          odd_same (worth text a) (worth text b) (eqb-false (worth text a % 2) 0 odd_a) (eqb-false (worth text b % 2) 0 odd_b)
+          odd_same (worth a) (worth b) (eqb-false (worth a % 2) 0 odd_a) (eqb-false (worth b % 2) 0 odd_b)
           (sym is ∙ other)
 
-      pub far_even_other : eqb (worth text b % 2) 0 ≡ true → (q : Bool) → q ≡ eqb (worth text b + 1) (worth text a)
-          → q ≡ eqb (var (worth text a)) (var (worth text b))
+      pub far_even_other : eqb (worth b % 2) 0 ≡ true → (q : Bool) → q ≡ eqb (worth b + 1) (worth a)
+          → q ≡ eqb (var (worth a)) (var (worth b))
       far_even_other even_b q q_is =
           q_is
-          ∙ even_same (worth text b) (worth text a) (eqb-true (worth text b % 2) 0 even_b)
-          (ne_eqb (worth text b + 0) (worth text a)
-          (λ e. eqb-false (worth text a + 0) (worth text b) (sym is ∙ other) (omega (arith, e))))
-          ∙ same_sym (worth text b) (worth text a)
+          ∙ even_same (worth b) (worth a) (eqb-true (worth b % 2) 0 even_b)
+          (ne_eqb (worth b + 0) (worth a)
+          (λ e. eqb-false (worth a + 0) (worth b) (sym is ∙ other) (omega (arith, e))))
+          ∙ same_sym (worth b) (worth a)

@@ -12,10 +12,11 @@ fn past_number(text: &[u8], at: usize, byte: u8) -> Option<usize>
     ensures { PastNumber text.now at byte result }
 {
     let x = number_at(text, at);
-    if x.end == at || text.len() <= x.end || text[x.end] != byte {
+    let end = at + x.digits.len();
+    if end == at || text.len() <= end || text[end] != byte {
         return None;
     }
-    Some(x.end + 1)
+    Some(end + 1)
 }
 
 // Where the line after one of so many numbers starts; none where the line at this place is not of so many numbers, or not ended.

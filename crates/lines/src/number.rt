@@ -1,18 +1,31 @@
 // A number where it stands in a text.
-ghost use Rattle.std.specs.Prelude.{◌≡◌, ◌≤◌, length, drop, IfSome};
-ghost use Rattle.lines.specs.Numbers.{digit_at, grown, Stands, span, digits_of};
+ghost use Rattle.std.specs.Prelude.{◌≡◌, true, [], ◌≤◌, length, drop, IfSome};
+ghost use Rattle.meaning.specs.Clauses.{all};
+ghost use Rattle.meaning.specs.Lines.{is_digit, decimal};
+ghost use Rattle.lines.specs.Digits.{digit_at, capped, grown, digits_of};
 
-// The place of its digits, and its value; HUGE stands for every value from there on.
+// Its digits, and its value; HUGE stands for every value from there on.
 #[derive(Clone, Copy)]
-pub struct Number {
-    pub start: usize,
-    pub end: usize,
+pub struct Number<'a> {
+    pub digits: &'a [u8],
     pub value: usize,
+    pub ghost digital: { all is_digit digits.now ≡ true },
+    pub ghost valued: { value ≡ capped (decimal digits.now) },
 }
 
-impl Number {
+impl Number<'_> {
     // The last value, down from what a word holds, that ends in the digit 0.
     pub const HUGE: usize = 18446744073709551610;
+}
+
+// The number with no digits, which is 0.
+pub fn no_number() -> Number<'static>
+    ensures { result.digits.now ≡ [] }
+{
+    Number {
+        digits: b"",
+        value: 0,
+    }
 }
 
 // The digit at a place, if one stands there.
@@ -37,9 +50,9 @@ fn grown(value: usize, digit: usize) -> usize
 }
 
 // The number whose digits start at a place: all digits from there on, perhaps none.
-pub fn number_at(text: &[u8], at: usize) -> Number
+pub fn number_at(text: &[u8], at: usize) -> Number<'_>
     requires { at ≤ length text.now }
-    ensures { Stands text.now result × (result.start ≡ at) × (span text.now result ≡ digits_of (drop at text.now)) }
+    ensures { result.digits.now ≡ digits_of (drop at text.now) }
 {
     let mut end = at;
     let mut value: usize = 0;
@@ -48,8 +61,7 @@ pub fn number_at(text: &[u8], at: usize) -> Number
         end += 1;
     }
     Number {
-        start: at,
-        end,
+        digits: &text[at..end],
         value,
     }
 }

@@ -2,7 +2,7 @@
 use native.Mathlib.Omega.{arith}
 use mathlib.Core.Path.{sym, ap, ◌∙◌}
 use Rattle.std.specs.Prelude.{Some}
-use Rattle.lines.specs.Numbers.{digit_past, digit_none, digit_is}
+use Rattle.lines.specs.Digits.{digit_past, digit_none, digit_is}
 use Rattle.lines.proofs.number.digit_at.Goals as goal
 use Rattle.lines.proofs.number.digit_at.Goals.{then-text-at-via-then-text-at, then-text-at-via-else-text-at+then-not-is_ascii_digit}
 

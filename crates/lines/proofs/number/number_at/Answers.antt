@@ -1,6 +1,9 @@
-use mathlib.Core.Path.{refl, sym, subst⁻¹}
+use mathlib.Core.Path.{sym, ap, subst⁻¹, ◌∙◌}
 use native.Mathlib.Omega.{arith}
-use Rattle.lines.specs.Numbers.{Begun, begun, begun_more, begun_whole, span, worth, a_digit}
+use Prim.Native.Nat.{ℕ, ◌+◌, ◌-◌}
+use Rattle.std.specs.Prelude.{◌≡◌, take, drop}
+use Rattle.std.proofs.lemmas.List.{drop-take}
+use Rattle.lines.specs.Digits.{Begun, begun, begun_more, begun_whole, a_digit}
 use Rattle.lines.proofs.number.number_at.Goals as goal
 
 pub loop-digit-init : goal.loop-digit-init
@@ -14,10 +17,9 @@ loop-digit-preserved c =
     subst⁻¹ (Begun _ _ _) c.grown-value.ensures (begun_more _ c.loop-digit.invariant (sym c.in-Some.ensures.0) c.in-Some.ensures.1)
 
 pub returns : goal.returns
-unfolding span worth
 returns c =
-    let h = c.loop-digit.invariant in (
-      record { rises = h.rises; inside = h.inside; digits = h.digits; value = h.valued },
-      refl,
-      begun_whole h (sym c.in_default.ensures.0),
-    )
+    let h = c.loop-digit.invariant in
+    let whole : c.args.at + (c.loop-digit.end - c.args.at) ≡ c.loop-digit.end = omega (arith, h.rises) in
+    sym (drop-take c.args.at (c.loop-digit.end - c.args.at) c.args.text.now)
+    ∙ ap (λ (k : ℕ). drop c.args.at (take k c.args.text.now)) whole
+    ∙ begun_whole h (sym c.in_default.ensures.0)

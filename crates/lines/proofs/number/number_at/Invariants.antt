@@ -1,7 +1,7 @@
 -- `lines::number::number_at` meets its contract. The loop's invariant: the digits up to here are read, and the others follow. Assumes nothing.
 use Prim.Native.Nat.{◌-◌}
 use lib.ListN.{length}
-use Rattle.lines.specs.Numbers.{Begun}
+use Rattle.lines.specs.Digits.{Begun}
 use Rattle.lines.proofs.number.number_at.Given as goal
 
 abbrev pub invariant-loop-digit : goal.invariant-loop-digit
