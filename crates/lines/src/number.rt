@@ -1,5 +1,5 @@
 // A number where it stands in a text.
-ghost use Rattle.std.specs.Prelude.{◌≡◌, true, [], ◌≤◌, length, drop, IfSome};
+ghost use Rattle.std.specs.Prelude.{◌≡◌, true, [], ◌+◌, ◌≤◌, length, drop, IfSome};
 ghost use Rattle.meaning.specs.Clauses.{all};
 ghost use Rattle.meaning.specs.Lines.{is_digit, decimal};
 ghost use Rattle.lines.specs.Digits.{digit_at, capped, grown, digits_of};
@@ -52,7 +52,8 @@ fn grown(value: usize, digit: usize) -> usize
 // The number whose digits start at a place: all digits from there on, perhaps none.
 pub fn number_at(text: &[u8], at: usize) -> Number<'_>
     requires { at ≤ length text.now }
-    ensures { result.digits.now ≡ digits_of (drop at text.now) }
+    ensures digits { result.digits.now ≡ digits_of (drop at text.now) }
+    ensures inside { at + length result.digits.now ≤ length text.now }
 {
     let mut end = at;
     let mut value: usize = 0;

@@ -11,7 +11,8 @@ use Rattle.meaning.specs.CircuitText
 use Rattle.meaning.specs.CircuitText.{numbers_at, used_right, defined_right, literals_right, width_right, start_right, line_right}
 use Rattle.laws.specs.Basics.{and_left, and_right}
 use Rattle.lines.specs.declared.number.Number.{Number}
-use Rattle.lines.specs.Numbers.{digits_of, span, worth, Stands}
+use Rattle.lines.specs.Digits.{digits_of}
+use Rattle.lines.specs.Numbers.{worth}
 use Rattle.lines.specs.Past.{line_past}
 use Rattle.sections.specs.declared.line.Form.{Form}
 use Rattle.sections.specs.Rows.{form_of, numbers_after, value_small, value_least}
@@ -105,18 +106,18 @@ module _ (f : Form) (judged : Bool) (m : ℕ) (before text : List ℕ) (at width
       go [] = refl
       go (l ∷ ls) = sym (rw e)
 
-  module _ (x : Number) (stands : Stands text x) (start : x.start ≡ at) (whole : span text x ≡ digits_of (drop at text)) where
+  module _ (x : Number) (whole : x.digits.now ≡ digits_of (drop at text)) where
     pub line_split : Split text at (width - 1) x
     line_split =
         let up : width ≡ suc (width - 1) = omega arith in
-        split text at (width - 1) closed (subst (λ (w : ℕ). of_numbers w (line_at text at) ≡ true) up numbers) x stands start whole
+        split text at (width - 1) closed (subst (λ (w : ℕ). of_numbers w (line_at text at) ≡ true) up numbers) x whole
 
     abbrev First : Bool
-    First = cond f.defines (defined_right judged m before (worth text x)) (used_right m (worth text x))
+    First = cond f.defines (defined_right judged m before (worth x)) (used_right m (worth x))
 
     module _ (no_count : f.counts ≡ false) where
       right_is : literals_right (form_of f) judged m before (numbers_at text at)
-          ≡ (First && all (used_right m) (numbers_after text x.end (width - 1)))
+          ≡ (First && all (used_right m) (numbers_after text (at + length x.digits.now) (width - 1)))
       unfolding form_of literals_right
       right_is = rw (line_split.numbers, no_count)
 
@@ -124,7 +125,7 @@ module _ (f : Form) (judged : Bool) (m : ℕ) (before text : List ℕ) (at width
       literals_first b said e = sym (rw (right_is, sym said ∙ e))
 
       pub literals_rest : (b : Bool) → b ≡ First → b ≡ true → (q : Bool)
-          → q ≡ all (used_right m) (numbers_after text x.end (width - 1)) → Literals q
+          → q ≡ all (used_right m) (numbers_after text (at + length x.digits.now) (width - 1)) → Literals q
       literals_rest b said right q rest_said = rest_said ∙ sym (rw (right_is, sym said ∙ right))
 
 -- ---- the start value
@@ -158,20 +159,20 @@ module _ (f : Form) (text : List ℕ) (at width : ℕ) where
     pub starts_none : of_numbers width (line_at text at) ≡ true → f.width ≡ width → Starts true
     starts_none n e = sym (start_is ∙ rw (past_last n e))
 
-    module _ (x : Number) (stands : Stands text x) (x_is : worth text x ≡ get_or (numbers_at text at) f.width 0) where
+    module _ (x : Number) (x_is : worth x ≡ get_or (numbers_at text at) f.width 0) where
       pub starts_constant : x.value < 2 → Starts true
       starts_constant less =
-          sym (start_is ∙ rw (lt-ltb (get_or (numbers_at text at) f.width 0) 2 (subst (λ (v : ℕ). v < 2) x_is (value_small text x stands less))))
+          sym (start_is ∙ rw (lt-ltb (get_or (numbers_at text at) f.width 0) 2 (subst (λ (v : ℕ). v < 2) x_is (value_small x less))))
 
-      pub starts_own : 2 ≤ x.value → (y : ℕ) → y ≡ get_or (numbers_at text at) 0 0 → (b : Bool) → b ≡ eqb (worth text x + 0) y → Starts b
+      pub starts_own : 2 ≤ x.value → (y : ℕ) → y ≡ get_or (numbers_at text at) 0 0 → (b : Bool) → b ≡ eqb (worth x + 0) y → Starts b
       starts_own more y y_is b said =
-          let alone : worth text x + 0 ≡ worth text x = omega arith in
+          let alone : worth x + 0 ≡ worth x = omega arith in
           said ∙ ap (λ (v : ℕ). eqb v y) (alone ∙ x_is) ∙ ap (eqb (get_or (numbers_at text at) f.width 0)) y_is
           ∙ sym
           (start_is
           ∙ rw
           (le-ltb (get_or (numbers_at text at) f.width 0) 2
-          (subst (λ (v : ℕ). 2 ≤ v) x_is (value_least text x stands more))))
+          (subst (λ (v : ℕ). 2 ≤ v) x_is (value_least x more))))
 
 -- ---- the line put together
 

@@ -15,7 +15,8 @@ use Rattle.meaning.specs.Built.{position, among}
 use Rattle.meaning.specs.CircuitText.{Line, numbers_at, at_number, defined_in}
 use Rattle.laws.specs.Basics.{bool_cases}
 use Rattle.lines.specs.declared.number.Number.{Number}
-use Rattle.lines.specs.Numbers.{digits_of, span, worth, Stands}
+use Rattle.lines.specs.Digits.{digits_of}
+use Rattle.lines.specs.Numbers.{worth}
 use Rattle.lines.specs.Past.{words_last, words_space, words_other, line_number, line_past_end, words_digits}
 use Rattle.sections.specs.declared.find.Lines.{Lines}
 
@@ -87,38 +88,37 @@ among_position u (v ∷ us) = go (eqb u v) (among_position u us)
 
 -- ---- a number at the start of a line of numbers
 
-module _ (text : List ℕ) (at : ℕ) (x : Number) (stands : Stands text x) (start : x.start ≡ at)
-    (whole : span text x ≡ digits_of (drop at text)) where
-  pub first_word_is : all is_number (words (line_at text at)) ≡ true → (ws : List (List ℕ)) × (words (line_at text at) ≡ (span text x ∷ ws))
+module _ (text : List ℕ) (at : ℕ) (x : Number) (whole : x.digits.now ≡ digits_of (drop at text)) where
+  pub first_word_is : all is_number (words (line_at text at)) ≡ true → (ws : List (List ℕ)) × (words (line_at text at) ≡ (x.digits.now ∷ ws))
   unfolding words
-  first_word_is h = inside_or (bool_cases (ltb x.end (length text)))
+  first_word_is h = inside_or (bool_cases (ltb (at + length x.digits.now) (length text)))
     where
       Found : Type 0
-      Found = (ws : List (List ℕ)) × (words (line_at text at) ≡ (span text x ∷ ws))
+      Found = (ws : List (List ℕ)) × (words (line_at text at) ≡ (x.digits.now ∷ ws))
 
-      by_byte : x.end < length text
-          → (eqb (get_or text x.end 0) newline ≡ true) ⊎ (eqb (get_or text x.end 0) newline ≡ false)
-          → (eqb (get_or text x.end 0) space ≡ true) ⊎ (eqb (get_or text x.end 0) space ≡ false) → Found
-      by_byte inside (inl t) b = ([], words_last text at x stands start whole inside (eqb-true _ _ t))
+      by_byte : (at + length x.digits.now) < length text
+          → (eqb (get_or text (at + length x.digits.now) 0) newline ≡ true) ⊎ (eqb (get_or text (at + length x.digits.now) 0) newline ≡ false)
+          → (eqb (get_or text (at + length x.digits.now) 0) space ≡ true) ⊎ (eqb (get_or text (at + length x.digits.now) 0) space ≡ false) → Found
+      by_byte inside (inl t) b = ([], words_last text at x whole inside (eqb-true _ _ t))
       by_byte inside (inr t) (inl u) =
-          (words (line_at text (x.end + 1)), words_space text at x stands start whole inside (eqb-true _ _ u))
+          (words (line_at text ((at + length x.digits.now) + 1)), words_space text at x whole inside (eqb-true _ _ u))
       by_byte inside (inr t) (inr u) =
-          absurd (true≢false (sym h ∙ words_other text at x stands start whole inside (eqb-false _ _ t) (eqb-false _ _ u)))
+          absurd (true≢false (sym h ∙ words_other text at x whole inside (eqb-false _ _ t) (eqb-false _ _ u)))
 
-      inside_or : (ltb x.end (length text) ≡ true) ⊎ (ltb x.end (length text) ≡ false) → Found
+      inside_or : (ltb (at + length x.digits.now) (length text) ≡ true) ⊎ (ltb (at + length x.digits.now) (length text) ≡ false) → Found
       inside_or (inl t) =
-          by_byte (ltb-true x.end (length text) t) (bool_cases (eqb (get_or text x.end 0) newline))
-          (bool_cases (eqb (get_or text x.end 0) space))
+          by_byte (ltb-true (at + length x.digits.now) (length text) t) (bool_cases (eqb (get_or text (at + length x.digits.now) 0) newline))
+          (bool_cases (eqb (get_or text (at + length x.digits.now) 0) space))
       inside_or (inr t) = (
         [],
-        ap words (line_number text at x stands start whole)
-            ∙ words_digits (span text x) (line_at text x.end) [] [] stands.digits
-            (ap words (line_past_end text x.end (ltb-false x.end (length text) t)))
-            ∙ ap (λ (w : List ℕ). w ∷ []) (append-nil (span text x)),
+        ap words (line_number text at x whole)
+            ∙ words_digits x.digits.now (line_at text (at + length x.digits.now)) [] [] x.digital
+            (ap words (line_past_end text (at + length x.digits.now) (ltb-false (at + length x.digits.now) (length text) t)))
+            ∙ ap (λ (w : List ℕ). w ∷ []) (append-nil x.digits.now),
       )
 
   -- what the line defines is the variable of that number
-  pub first_number_is : all is_number (words (line_at text at)) ≡ true → get_or (numbers_at text at) 0 0 ≡ worth text x
+  pub first_number_is : all is_number (words (line_at text at)) ≡ true → get_or (numbers_at text at) 0 0 ≡ worth x
   unfolding numbers_at worth
   first_number_is h = let found = first_word_is h in ap (λ (l : List (List ℕ)). get_or (map decimal l) 0 0) found.1
 

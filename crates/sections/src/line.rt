@@ -6,7 +6,7 @@ ghost use Rattle.meaning.specs.Lines.{ended, line_at, next_line, of_numbers};
 ghost use Rattle.meaning.specs.Circuit.{var};
 ghost use Rattle.meaning.specs.Built.{among};
 ghost use Rattle.meaning.specs.CircuitText.{used_right, defined_right, literals_right, start_right, line_right, numbers_at};
-ghost use Rattle.lines.specs.Numbers.{Stands, worth};
+ghost use Rattle.lines.specs.Numbers.{worth};
 ghost use Rattle.sections.specs.Lists.{Placed};
 ghost use Rattle.sections.specs.Rows.{before_of, BeforePlaced, numbers_after, Rest, form_of};
 ghost use Rattle.sections.specs.LineOf.{WidthIs};
@@ -37,10 +37,9 @@ pub struct Before {
 }
 
 // Whether a variable is defined before.
-fn seen(text: &[u8], before: Before, l: Number) -> bool
-    requires before_placed { BeforePlaced text.now before }
-    requires stands { Stands text.now l }
-    ensures { result ≡ among (var (worth text.now l)) (before_of text.now before) }
+fn seen(text: &[u8], before: Before, l: &Number) -> bool
+    requires { BeforePlaced text.now before }
+    ensures { result ≡ among (var (worth l.now)) (before_of text.now before) }
 {
     defines(text, before.inputs, l)
         || defines(text, before.latches, l)
@@ -48,14 +47,12 @@ fn seen(text: &[u8], before: Before, l: Number) -> bool
 }
 
 // A literal that is defined is even, 2 to 2M, and its variable is new, as far as that is judged.
-fn defined_right(text: &[u8], judged: bool, m: Number, before: Before, l: Number) -> bool
+fn defined_right(text: &[u8], judged: bool, m: &Number, before: Before, l: &Number) -> bool
     requires before_placed { BeforePlaced text.now before }
-    requires stands { Stands text.now m }
-    requires stands_2 { Stands text.now l }
-    requires start_lt_end { l.start < l.end }
-    ensures { result ≡ defined_right judged (worth text.now m) (before_of text.now before) (worth text.now l) }
+    requires l_has_digits { 0 < length l.now.digits.now }
+    ensures { result ≡ defined_right judged (worth m.now) (before_of text.now before) (worth l.now) }
 {
-    if !is_even(text, l) || l.value < 2 || !used_right(text, m, l) {
+    if !is_even(l) || l.value < 2 || !used_right(m, l) {
         return false;
     }
     !judged || !seen(text, before, l)
@@ -66,35 +63,32 @@ fn first_right(
     text: &[u8],
     defines: bool,
     judged: bool,
-    m: Number,
+    m: &Number,
     before: Before,
-    l: Number,
+    l: &Number,
 ) -> bool
     requires before_placed { BeforePlaced text.now before }
-    requires stands { Stands text.now m }
-    requires stands_2 { Stands text.now l }
-    requires start_lt_end { l.start < l.end }
-    ensures { result ≡ cond defines (defined_right judged (worth text.now m) (before_of text.now before) (worth text.now l)) (used_right (worth text.now m) (worth text.now l)) }
+    requires l_has_digits { 0 < length l.now.digits.now }
+    ensures { result ≡ cond defines (defined_right judged (worth m.now) (before_of text.now before) (worth l.now)) (used_right (worth m.now) (worth l.now)) }
 {
     if defines {
         return defined_right(text, judged, m, before, l);
     }
-    used_right(text, m, l)
+    used_right(m, l)
 }
 
 // The numbers of a line after one that ends at a place, so many of them: each is a literal that is used.
-fn rest_right(text: &[u8], end: usize, left: usize, m: Number) -> bool
-    requires rest { Rest text.now end left }
-    requires stands { Stands text.now m }
-    ensures { result ≡ all (used_right (worth text.now m)) (numbers_after text.now end left) }
+fn rest_right(text: &[u8], end: usize, left: usize, m: &Number) -> bool
+    requires { Rest text.now end left }
+    ensures { result ≡ all (used_right (worth m.now)) (numbers_after text.now end left) }
 {
     let mut p = end;
     for _ in 0..left {
         let x = number_at(text, p + 1);
-        if !used_right(text, m, x) {
+        if !used_right(m, &x) {
             return false;
         }
-        p = x.end;
+        p = p + 1 + x.digits.len();
     }
     true
 }
@@ -131,7 +125,7 @@ fn start_right(text: &[u8], at: usize, form: Form, width: usize) -> bool
     if start.value < 2 {
         return true;
     }
-    is_sum(text, start, 0, nth(text, at, 0))
+    is_sum(&start, 0, &nth(text, at, 0))
 }
 
 // The literals of a line of so many numbers.
@@ -141,7 +135,7 @@ fn literals_right(
     form: Form,
     width: usize,
     judged: bool,
-    m: Number,
+    m: &Number,
     before: Before,
 ) -> bool
     requires at_in_bounds { at ≤ length text.now }
@@ -149,17 +143,16 @@ fn literals_right(
     requires at_value_2 { of_numbers width (line_at text.now at) ≡ true }
     requires le_width { 1 ≤ width }
     requires before_placed { BeforePlaced text.now before }
-    requires stands { Stands text.now m }
-    ensures { result ≡ literals_right (form_of form) judged (worth text.now m) (before_of text.now before) (numbers_at text.now at) }
+    ensures { result ≡ literals_right (form_of form) judged (worth m.now) (before_of text.now before) (numbers_at text.now at) }
 {
     if form.counts {
         return true;
     }
     let first = number_at(text, at);
-    if !first_right(text, form.defines, judged, m, before, first) {
+    if !first_right(text, form.defines, judged, m, before, &first) {
         return false;
     }
-    rest_right(text, first.end, width - 1, m)
+    rest_right(text, at + first.digits.len(), width - 1, m)
 }
 
 // Where the line after this one starts; none where this one is at fault.
@@ -168,15 +161,14 @@ pub fn line_of(
     at: usize,
     form: Form,
     judged: bool,
-    m: Number,
+    m: &Number,
     before: Before,
 ) -> Option<usize>
     requires at_in_bounds { at ≤ length text.now }
     requires le_width { 1 ≤ form.width }
     requires width_bound { form.width ≤ 3 }
     requires before_placed { BeforePlaced text.now before }
-    requires stands { Stands text.now m }
-    ensures { (result ≡ cond (line_right (form_of form) judged (worth text.now m) (before_of text.now before) text.now at) (Some (next_line text.now at)) None) × IfSome result (λ next. next ≤ length text.now) }
+    ensures { (result ≡ cond (line_right (form_of form) judged (worth m.now) (before_of text.now before) text.now at) (Some (next_line text.now at)) None) × IfSome result (λ next. next ≤ length text.now) }
 {
     let width = width_of(text, at, form)?;
     if !literals_right(text, at, form, width, judged, m, before) {

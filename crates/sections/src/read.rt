@@ -1,7 +1,7 @@
 // A section: so many lines of a form, one after another.
 ghost use Rattle.std.specs.Prelude.{◌≡◌, ◌++◌, ℕ, ◌≤◌, length};
 ghost use Rattle.meaning.specs.CircuitText.{section};
-ghost use Rattle.lines.specs.Numbers.{Stands, worth, huge, capped};
+ghost use Rattle.lines.specs.Numbers.{worth, huge, capped};
 ghost use Rattle.sections.specs.Lists.{Placed, variables_of};
 ghost use Rattle.sections.specs.Rows.{form_of};
 ghost use Rattle.sections.specs.Reading.{ended_as, own_count};
@@ -26,7 +26,7 @@ pub fn read_section(
     count: usize,
     form: Form,
     judged: bool,
-    m: Number,
+    m: &Number,
     inputs: Lines,
     latches: Lines,
 ) -> Result<usize, Fault>
@@ -34,10 +34,9 @@ pub fn read_section(
     requires le_width { 1 ≤ form.width }
     requires width_bound { form.width ≤ 3 }
     requires count_le_huge { count ≤ huge }
-    requires stands { Stands text.now m }
     requires placed { Placed text.now inputs }
     requires placed_2 { Placed text.now latches }
-    ensures { (n : ℕ) → count ≡ capped n → result ≡ ended_as (section (form_of form) judged (worth text.now m) text.now n (variables_of text.now inputs ++ variables_of text.now latches) at) }
+    ensures { (n : ℕ) → count ≡ capped n → result ≡ ended_as (section (form_of form) judged (worth m.now) text.now n (variables_of text.now inputs ++ variables_of text.now latches) at) }
 {
     let mut p = at;
     for i in 0..count {

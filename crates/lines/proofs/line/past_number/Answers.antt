@@ -6,12 +6,12 @@ pub returns-then-end-at : goal.returns-then-end-at
 returns-then-end-at c =
     let x = c.number_at-x.ensures in
     elim c.then-end-at.branch [
-      | then-end-at-via-then-end-at w ↦ number_missing _ _ _ c.number_at-x.result x w.if-end-at.true c.requires
-      | then-end-at-via-else-end-at+then-text-end w ↦ number_last _ _ _ c.number_at-x.result x w.if-text-end.true
-      | then-end-at-via-else-end-at+else-text-end+then-text-end-2 w ↦ number_before _ _ _ c.number_at-x.result x w.if-text-end.false w.if-text-end-2.true
+      | then-end-at-via-then-end-at w ↦ number_missing _ _ _ c.number_at-x.result x.digits w.if-end-at.true c.requires
+      | then-end-at-via-else-end-at+then-text-end w ↦ number_last _ _ _ c.number_at-x.result x.digits w.if-text-end.true
+      | then-end-at-via-else-end-at+else-text-end+then-text-end-2 w ↦ number_before _ _ _ c.number_at-x.result x.digits w.if-text-end.false w.if-text-end-2.true
     ]
 
 pub returns : goal.returns
 returns c =
     let x = c.number_at-x.ensures in
-    number_past _ _ _ c.number_at-x.result x c.if-text-end.false c.if-end-at.false c.if-text-end-2.false
+    number_past _ _ _ c.number_at-x.result x.digits c.if-text-end.false c.if-end-at.false c.if-text-end-2.false

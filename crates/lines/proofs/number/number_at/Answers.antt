@@ -16,8 +16,8 @@ pub loop-digit-preserved : goal.loop-digit-preserved
 loop-digit-preserved c =
     subst⁻¹ (Begun _ _ _) c.grown-value.ensures (begun_more _ c.loop-digit.invariant (sym c.in-Some.ensures.0) c.in-Some.ensures.1)
 
-pub returns : goal.returns
-returns c =
+pub returns-clause-digits : goal.returns-clause-digits
+returns-clause-digits c =
     let h = c.loop-digit.invariant in
     let whole : c.args.at + (c.loop-digit.end - c.args.at) ≡ c.loop-digit.end = omega (arith, h.rises) in
     sym (drop-take c.args.at (c.loop-digit.end - c.args.at) c.args.text.now)

@@ -21,7 +21,7 @@ nth-start-requires-clause-j_in_bounds c =
     omega (arith, numbers_count _ _ c.requires.at_value_2, c.requires.width_le_width, c.if-form-width.false)
 
 pub returns-then-start-lt2 : goal.returns-then-start-lt2
-returns-then-start-lt2 c = starts_constant _ _ _ 0 (not-false _ c.if-not-form.false) _ c.nth-start.ensures.0 c.nth-start.ensures.1 c.if-start-lt2.true
+returns-then-start-lt2 c = starts_constant _ _ _ 0 (not-false _ c.if-not-form.false) _ c.nth-start.ensures.0 c.if-start-lt2.true
 
 pub nth-requires-clause-at_value_2 : goal.nth-requires-clause-at_value_2
 nth-requires-clause-at_value_2 c = numbers_all _ _ c.requires.at_value_2
@@ -31,4 +31,4 @@ nth-requires-clause-j_in_bounds c =
     omega (arith, numbers_count _ _ c.requires.at_value_2, c.requires.le_width)
 
 pub returns : goal.returns
-returns c = starts_own _ _ _ 0 (not-false _ c.if-not-form.false) _ c.nth-start.ensures.0 c.nth-start.ensures.1 c.if-start-lt2.false _ c.nth.ensures.1 _ c.is_sum.ensures
+returns c = starts_own _ _ _ 0 (not-false _ c.if-not-form.false) _ c.nth-start.ensures.0 c.if-start-lt2.false _ c.nth.ensures.0 _ c.is_sum.ensures

@@ -7,4 +7,4 @@ use Rattle.sections.specs.Reading.{Going}
 use Rattle.sections.proofs.read.read_section.Given as goal
 
 abbrev pub invariant-loop-i : goal.invariant-loop-i
-invariant-loop-i l = (n : ℕ) → l.count ≡ capped n → Going l.text l.form l.judged (worth l.text l.m) (variables_of l.text l.inputs ++ variables_of l.text l.latches) l.at n l.p l.i
+invariant-loop-i l = (n : ℕ) → l.count ≡ capped n → Going l.text l.form l.judged (worth l.m) (variables_of l.text l.inputs ++ variables_of l.text l.latches) l.at n l.p l.i
