@@ -3,6 +3,7 @@
 #![tactic(auto)]
 
 pub mod compare;
+pub mod fault;
 pub mod line;
 pub mod literal;
 pub mod number;
