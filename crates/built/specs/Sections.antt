@@ -1,5 +1,5 @@
 -- The clauses of latches, gates and literals that are to be 1, line by line.
-use Rattle.std.specs.Prelude.{ℕ, zero, suc, ◌+◌, ◌≤◌, ◌≡◌, true, false, get_or, eqb}
+use Rattle.std.specs.Prelude.{ℕ, zero, suc, ◌+◌, ◌≤◌, ◌≡◌, Bool, true, false, not, get_or, Some, None}
 use Rattle.std.proofs.Common.{arith, sym, ◌∙◌}
 use Rattle.std.proofs.Math.Path.{refl, ap}
 use mathlib.Core.List.{List, [], ◌∷◌, ◌++◌, map, append_assoc}
@@ -177,30 +177,31 @@ latch_as text c i l x is =
 -- ---- where a latch starts
 
 -- at either value: no clause
-pub start_none : (i s : ℕ) (ns : List ℕ) → s ≡ start_in ns → s ≡ 2 → clause_records 2 (start_line i ns) ≡ []
+pub start_none : (i : ℕ) (ns : List ℕ) → None ≡ start_in ns → clause_records 2 (start_line i ns) ≡ []
 unfolding start_in start_code start_clause clause_records
-start_none i s ns is two = go (start_of (get_or ns 2 0)) (sym is ∙ two)
+start_none i ns is = go (start_of (get_or ns 2 0)) is
   where
-    go : (t : Start) → start_code t ≡ 2 → clause_records 2 (start_clause (suc i) t) ≡ []
-    go at_0 e = absurd (omega (arith, e))
-    go at_1 e = absurd (omega (arith, e))
+    go : (t : Start) → None ≡ start_code t → clause_records 2 (start_clause (suc i) t) ≡ []
+    go at_0 e = cc
+    go at_1 e = cc
     go at_either e = refl
 
 -- at 0 or at 1: the clause of one edge, negative where it is 0
-pub start_some : (i s v : ℕ) (ns : List ℕ) → s ≡ start_in ns → (s ≡ 2 → ⊥) → v ≡ suc i
-    → clause_records 2 (clause_if (edge_of (record { negative = eqb s 0; variable = v }) ∷ [])) ≡ clause_records 2 (start_line i ns)
+pub start_some : (i v : ℕ) (b : Bool) (ns : List ℕ) → Some b ≡ start_in ns → v ≡ suc i
+    → clause_records 2 (clause_if (edge_of (record { negative = not b; variable = v }) ∷ [])) ≡ clause_records 2 (start_line i ns)
 unfolding start_in start_code start_clause clause_if literal_if
-start_some i s v ns is other v_is =
-    ap (λ (k : ℕ). clause_records 2 (clause_if (edge_of (record { negative = eqb s 0; variable = k }) ∷ []))) v_is
-    ∙ ap (λ (k : ℕ). clause_records 2 (clause_if (edge_of (record { negative = eqb k 0; variable = suc i }) ∷ []))) is
-    ∙ go (start_of (get_or ns 2 0)) (λ e. other (is ∙ e))
+start_some i v b ns is v_is =
+    ap (λ (k : ℕ). clause_records 2 (clause_if (edge_of (record { negative = not b; variable = k }) ∷ []))) v_is
+    ∙ go (start_of (get_or ns 2 0)) b is
   where
-    go : (t : Start) → (start_code t ≡ 2 → ⊥)
-        → clause_records 2 (clause_if (edge_of (record { negative = eqb (start_code t) 0; variable = suc i }) ∷ []))
+    go : (t : Start) (b : Bool) → Some b ≡ start_code t
+        → clause_records 2 (clause_if (edge_of (record { negative = not b; variable = suc i }) ∷ []))
         ≡ clause_records 2 (start_clause (suc i) t)
-    go at_0 o = rw (named_is (record { negative = true; variable = suc i }) (omega arith))
-    go at_1 o = rw (named_is (record { negative = false; variable = suc i }) (omega arith))
-    go at_either o = absurd (o refl)
+    go at_0 false e = rw (named_is (record { negative = true; variable = suc i }) (omega arith))
+    go at_0 true e = cc
+    go at_1 true e = rw (named_is (record { negative = false; variable = suc i }) (omega arith))
+    go at_1 false e = cc
+    go at_either b e = cc
 
 -- ---- a literal that is to be 1
 

@@ -41,20 +41,17 @@ fn variable_at(text: &[u8], c: Circuit, x: Number) -> usize
     if x.value < 2 {
         return 0;
     }
-    let latches = c.latches;
-    let n = latches.count;
-    let latch = find(text, latches, x);
+    let n = c.latches.count;
+    let latch = find(text, c.latches, x);
     if latch < n {
         return latch + 1;
     }
-    let inputs = c.inputs;
-    let count = inputs.count;
-    let input = find(text, inputs, x);
+    let count = c.inputs.count;
+    let input = find(text, c.inputs, x);
     if input < count {
         return n + n + input + 1;
     }
-    let gates = c.gates;
-    n + n + count + find(text, gates, x) + 1
+    n + n + count + find(text, c.gates, x) + 1
 }
 
 // Number j of a line.

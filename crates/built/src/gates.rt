@@ -52,15 +52,11 @@ pub fn put_gates(text: &[u8], c: Circuit, out: &mut [u8], at: usize, kind: usize
     requires c_in_bounds { at + length (clause_records kind (gates_clauses (circuit_at text.now c) (circuit_at text.now c).gates)) ≤ length out.old }
     ensures { Wrote (clause_records kind (gates_clauses (circuit_at text.now c) (circuit_at text.now c).gates)) at out.old result out.new }
 {
-    let gates = c.gates;
-    let count = gates.count;
-    let mut line = gates.at;
+    let mut line = c.gates.at;
     let mut to = at;
-    let mut i: usize = 0;
-    while i < count {
+    for _ in 0..c.gates.count {
         to = put_gate(text, c, line, out, to, kind);
         line = next_line(text, line);
-        i += 1;
     }
     to
 }

@@ -22,12 +22,11 @@ fn put_start(text: &[u8], line: usize, i: usize, out: &mut [u8], at: usize) -> u
     requires line_in_bounds { at + length (clause_records 2 (start_line i (numbers_at text.now line))) ≤ length out.old }
     ensures { Wrote (clause_records 2 (start_line i (numbers_at text.now line))) at out.old result out.new }
 {
-    let start = start_at(text, line);
-    if start == 2 {
+    let Some(start) = start_at(text, line) else {
         return at;
-    }
+    };
     let e = Edge {
-        negative: start == 0,
+        negative: !start,
         variable: i + 1,
     };
     put_one_edge(out, at, 2, e)
@@ -39,15 +38,11 @@ pub fn put_starts(text: &[u8], c: Circuit, out: &mut [u8], at: usize) -> usize
     requires c_in_bounds { at + length (clause_records 2 (start_clauses 1 (circuit_at text.now c).latches)) ≤ length out.old }
     ensures { Wrote (clause_records 2 (start_clauses 1 (circuit_at text.now c).latches)) at out.old result out.new }
 {
-    let latches = c.latches;
-    let count = latches.count;
-    let mut line = latches.at;
+    let mut line = c.latches.at;
     let mut to = at;
-    let mut i: usize = 0;
-    while i < count {
+    for i in 0..c.latches.count {
         to = put_start(text, line, i, out, to);
         line = next_line(text, line);
-        i += 1;
     }
     to
 }
@@ -82,8 +77,7 @@ fn put_latch(text: &[u8], c: Circuit, line: usize, i: usize, out: &mut [u8], at:
     ensures { Wrote (clause_records 3 (latch_line (circuit_at text.now c) i (numbers_at text.now line))) at out.old result out.new }
 {
     let x = edge_at(text, c, line, 1);
-    let latches = c.latches;
-    put_same(out, at, latches.count + i + 1, x)
+    put_same(out, at, c.latches.count + i + 1, x)
 }
 
 // The clauses of all latches, by line order.
@@ -92,15 +86,11 @@ pub fn put_latches(text: &[u8], c: Circuit, out: &mut [u8], at: usize) -> usize
     requires c_in_bounds { at + length (clause_records 3 (latches_clauses (circuit_at text.now c) 1 (circuit_at text.now c).latches)) ≤ length out.old }
     ensures { Wrote (clause_records 3 (latches_clauses (circuit_at text.now c) 1 (circuit_at text.now c).latches)) at out.old result out.new }
 {
-    let latches = c.latches;
-    let count = latches.count;
-    let mut line = latches.at;
+    let mut line = c.latches.at;
     let mut to = at;
-    let mut i: usize = 0;
-    while i < count {
+    for i in 0..c.latches.count {
         to = put_latch(text, c, line, i, out, to);
         line = next_line(text, line);
-        i += 1;
     }
     to
 }

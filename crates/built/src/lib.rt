@@ -1,7 +1,7 @@
 // The problem file that is built from a circuit and its lemmas, written into bytes that the caller lends.
 #![tactic(auto)]
 
-ghost use Rattle.std.specs.Prelude.{◌≡◌, ◌+◌, ◌<◌, ◌≤◌, false, [], ◌++◌, length};
+ghost use Rattle.std.specs.Prelude.{◌≡◌, ◌+◌, ◌<◌, ◌≤◌, [], ◌++◌, length, IsOkAnd};
 ghost use Rattle.meaning.specs.LemmaText.{read_lemma_text};
 ghost use Rattle.meaning.specs.Filed.{two, record_bytes, file_of};
 ghost use Rattle.records.specs.Put.{put};
@@ -54,11 +54,9 @@ fn put_tr(text: &[u8], c: Circuit, out: &mut [u8], at: usize) -> usize
     requires c_in_bounds { at + length (tr_records (circuit_at text.now c)) ≤ length out.old }
     ensures { Wrote (tr_records (circuit_at text.now c)) at out.old result out.new }
 {
-    let properties = c.properties;
-    let constraints = properties.constraints;
     let to = put_gates(text, c, out, at, 3);
     let on = put_latches(text, c, out, to);
-    put_ones(text, c, constraints, out, on, 3)
+    put_ones(text, c, c.properties.constraints, out, on, 3)
 }
 
 // Bad: the gates again, then the bad literal, then the constraints.
@@ -68,28 +66,22 @@ fn put_bad(text: &[u8], c: Circuit, out: &mut [u8], at: usize) -> usize
     requires c_in_bounds { at + length (bad_records (circuit_at text.now c)) ≤ length out.old }
     ensures { Wrote (bad_records (circuit_at text.now c)) at out.old result out.new }
 {
-    let properties = c.properties;
-    let constraints = properties.constraints;
-    let bad = bad_lines(properties);
+    let bad = bad_lines(c.properties);
     let to = put_gates(text, c, out, at, 4);
     let on = put_ones(text, c, bad, out, to, 4);
-    put_ones(text, c, constraints, out, on, 4)
+    put_ones(text, c, c.properties.constraints, out, on, 4)
 }
 
 // Writes the file of the problem that is built, from the start, and says how long it is.
 pub fn write_problem(text: &[u8], c: Circuit, lemmas: &[u8], out: &mut [u8]) -> usize
     requires small { Small text.now c }
     requires one_bad { OneBad c.properties }
-    requires lemmas_value { (summary_of (read_lemma_text c.latches.count lemmas.now)).fault ≡ false }
-    requires lemmas_bound { (summary_of (read_lemma_text c.latches.count lemmas.now)).longest ≤ 64 }
+    requires lemmas_value { IsOkAnd (summary_of (read_lemma_text c.latches.count lemmas.now)) (λ l. l.longest ≤ 64) }
     requires lemmas_in_bounds { length (file_of (problem_of text.now c lemmas.now)) ≤ length out.old }
     ensures { (result ≡ length (file_of (problem_of text.now c lemmas.now))) × (out.new ≡ put 0 (file_of (problem_of text.now c lemmas.now)) out.old) }
 {
-    let inputs = c.inputs;
-    let latches = c.latches;
-    let gates = c.gates;
-    let n = latches.count;
-    let init = put_first(out, 0, n, inputs.count + gates.count);
+    let n = c.latches.count;
+    let init = put_first(out, 0, n, c.inputs.count + c.gates.count);
     let tr = put_starts(text, c, out, init);
     let bad = put_tr(text, c, out, tr);
     let last = put_bad(text, c, out, bad);

@@ -36,14 +36,11 @@ pub fn put_ones(text: &[u8], c: Circuit, s: Lines, out: &mut [u8], at: usize, ki
     requires s_in_bounds { at + length (clause_records kind (one_clauses (circuit_at text.now c) (literals_of text.now s))) ≤ length out.old }
     ensures { Wrote (clause_records kind (one_clauses (circuit_at text.now c) (literals_of text.now s))) at out.old result out.new }
 {
-    let count = s.count;
     let mut line = s.at;
     let mut to = at;
-    let mut i: usize = 0;
-    while i < count {
+    for _ in 0..s.count {
         to = put_one(text, c, line, out, to, kind);
         line = next_line(text, line);
-        i += 1;
     }
     to
 }

@@ -1,5 +1,5 @@
 -- A line of a lemma text, word by word: where the next one starts, and how many literals it has.
-use Rattle.std.specs.Prelude.{ℕ, ◌+◌, ◌≤◌, ◌<◌, ◌≡◌, refl, ◌⊎◌, Bool, true, ◌&&◌, cond, List, [], ◌∷◌, get_or, leb}
+use Rattle.std.specs.Prelude.{ℕ, ◌+◌, ◌≤◌, ◌<◌, ◌≡◌, refl, ◌⊎◌, Bool, true, ◌&&◌, cond, List, [], ◌∷◌, get_or, leb, Option, Some, None}
 use Rattle.std.proofs.Common.{arith, ◌∙◌, inl, inr}
 use Rattle.std.proofs.Math.Nat.{add-zero}
 use Rattle.std.proofs.Math.Path.{sym, ap}
@@ -8,6 +8,8 @@ use Rattle.std.proofs.Math.ListN.{length}
 use Rattle.std.proofs.Math.Seq.{slice_empty}
 use Rattle.std.proofs.Math.Dec.{eqb}
 use borrow.Author.Tests.{lt-ltb, le-ltb, le-leb, lt-leb, leb-true, eq-eqb, ne_eqb, eqb-true, eqb-false}
+use Rattle.std.specs.Ordering.{is_le, nat_cmp}
+use Rattle.std.proofs.lemmas.Bool.Decides.{nat_tests}
 use Rattle.meaning.specs.Clauses.{Clause}
 use Rattle.meaning.specs.File.{between}
 use Rattle.meaning.specs.Lines.{newline, space, line_at, ended, next_line, words, is_empty, is_number, decimal}
@@ -28,13 +30,10 @@ good_line most text at = ended text at && lemma_right most (words (line_at text 
 unfoldable pub lemma_at : List ℕ → ℕ → Clause
 lemma_at text at = lemma_of (words (line_at text at))
 
-unfoldable pub no_line : Line
-no_line = record { past = 0; count = 0 }
-
--- the line after it, and how many literals it has besides so many; nothing where it is no lemma
-unfoldable pub line_from : ℕ → List ℕ → ℕ → ℕ → Line
+-- the line after it, and how many literals it has besides so many; none where it is no lemma
+unfoldable pub line_from : ℕ → List ℕ → ℕ → ℕ → Option Line
 line_from most text n at =
-    cond (good_line most text at) (record { past = next_line text at; count = n + length (lemma_at text at) }) no_line
+    cond (good_line most text at) (Some (record { past = next_line text at; count = n + length (lemma_at text at) })) None
 
 -- ---- words and lemmas
 
@@ -84,6 +83,14 @@ module _ (text : List ℕ) (x : Number) (stands : Stands text x) where
   unfolding worth
   value_zero = ap (λ (v : ℕ). eqb v 0) stands.value ∙ zero_capped (worth text x)
 
+-- a range's own test of a number
+le_is : (a b : ℕ) → is_le (nat_cmp a b) ≡ leb a b
+le_is a b = grind (arith, nat_tests)
+
+pub in_range : (low high v : ℕ) → (is_le (nat_cmp low v) && is_le (nat_cmp v high)) ≡ between low high v
+unfolding between
+in_range low high v = rw (le_is low v, le_is v high)
+
 -- ---- a line that is no lemma
 
 and_false : (a : Bool) → (a && false) ≡ false
@@ -99,7 +106,7 @@ module _ (most : ℕ) (text : List ℕ) (at : ℕ) where
   unfolding good_line
   bad_words h = rw (h, and_false (ended text at))
 
-  pub bad_line : (n : ℕ) → good_line most text at ≡ false → line_from most text n at ≡ no_line
+  pub bad_line : (n : ℕ) → good_line most text at ≡ false → line_from most text n at ≡ None
   unfolding line_from
   bad_line n h = rw h
 
@@ -156,13 +163,13 @@ module _ (most : ℕ) (text : List ℕ) (at : ℕ) (x : Number) (w : WordAt text
       unfolding lemma_right
       last_right = rw (word_last text at x w inside is)
 
-      pub bad_sign : at < x.start → good_line most text at ≡ false
+      bad_sign : at < x.start → good_line most text at ≡ false
       bad_sign h =
           let minus = sym (sign_before text at x w) ∙ lt-ltb at x.start h in
           bad_words most text at
           (last_right ∙ ap (λ (t : Bool). is_zero (with_sign t (span text x))) minus ∙ signed_not_zero (span text x))
 
-      pub bad_value : 0 < x.value → good_line most text at ≡ false
+      bad_value : 0 < x.value → good_line most text at ≡ false
       unfolding is_zero with_sign
       bad_value h = bad_words most text at (last_right ∙ go negative)
         where
@@ -172,6 +179,10 @@ module _ (most : ℕ) (text : List ℕ) (at : ℕ) (x : Number) (w : WordAt text
           go : (t : Bool) → is_zero (with_sign t (span text x)) ≡ false
           go true = signed_not_zero (span text x)
           go false = rw (some_value, and_false (is_number (span text x)))
+
+      pub bad_last : (at < x.start) ⊎ ((x.start ≤ at) × (0 < x.value)) → good_line most text at ≡ false
+      bad_last (inl h) = bad_sign h
+      bad_last (inr h) = bad_value h.1
 
       pub last_none : lemma_at text at ≡ []
       unfolding lemma_at lemma_of
@@ -185,7 +196,7 @@ module _ (most : ℕ) (text : List ℕ) (at : ℕ) (x : Number) (w : WordAt text
             let none = sym (value_zero text x w.stands) ∙ eq-eqb x.value 0 zero_value in
             rw plus (and_both _ _ (numbered text at x w some) none)
 
-        pub line_closed : (n : ℕ) → line_from most text n at ≡ record { past = x.end + 1; count = n }
+        pub line_closed : (n : ℕ) → line_from most text n at ≡ Some (record { past = x.end + 1; count = n })
         unfolding line_from good_line
         line_closed n =
             rw (
@@ -228,3 +239,8 @@ module _ (most : ℕ) (text : List ℕ) (at : ℕ) (x : Number) (w : WordAt text
         line_space n h =
             let more : n + length (lemma_at text at) ≡ n + 1 + length (lemma_at text (x.end + 1)) = omega (arith, ap length lemma_first) in
             rw (good_space h, word_space_next text at x w inside is, more)
+
+  -- the text ends behind the word, or it has no digit
+  pub bad_start : (length text ≤ x.end) ⊎ ((x.end < length text) × (x.end ≡ x.start)) → good_line most text at ≡ false
+  bad_start (inl h) = bad_cut h
+  bad_start (inr h) = bad_empty h.0 h.1

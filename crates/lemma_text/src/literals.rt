@@ -17,12 +17,11 @@ pub fn put_literals(text: &[u8], from: usize, out: &mut [u8], at: usize) -> usiz
     let mut to = at;
     loop {
         let x = digits_at(text, p);
-        let end = x.end;
-        if text[end] == 10 {
+        if text[x.end] == b'\n' {
             return to;
         }
         put_literal(out, to, p < x.start, x.value);
         to += 2;
-        p = end + 1;
+        p = x.end + 1;
     }
 }

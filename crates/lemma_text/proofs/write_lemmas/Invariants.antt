@@ -9,9 +9,9 @@ use Rattle.lemma_text.specs.Written.{Left}
 use Rattle.lemma_text.specs.Recorded.{Fine, records_on}
 use Rattle.lemma_text.proofs.write_lemmas.Given as goal
 
-abbrev pub invariant-loop-from : goal.invariant-loop-from
-invariant-loop-from l = Fine (lemmas_on l.latches l.text l.from) × (l.from ≤ length l.text)
+abbrev pub invariant-loop-line : goal.invariant-loop-line
+invariant-loop-line l = Fine (lemmas_on l.latches l.text l.from) × (l.from ≤ length l.text)
     × Left (clause_records 5 (lemmas_of (read_lemma_text l.latches l.text))) l.at l.initial.out (records_on l.latches l.text l.from) l.to l.out
 
-abbrev pub decreases-loop-from : goal.decreases-loop-from
-decreases-loop-from l = length l.text - l.from
+abbrev pub decreases-loop-line : goal.decreases-loop-line
+decreases-loop-line l = length l.text - l.from

@@ -6,8 +6,8 @@ use mathlib.Core.Path.{sym}
 use native.Mathlib.Omega.{arith}
 use Rattle.built.proofs.gates.put_gates.Goals as goal
 
-pub loop-i-init : goal.loop-i-init
-loop-i-init c =
+pub loop-init : goal.loop-init
+loop-init c =
     let start = c in
     let first = cursor_start _ _ _ _ start.requires.small.whole.gates.inside start.requires.small.whole.gates.rows in
     let room = room_as _ start.args.out.now (gates_are_parts start.args.text.now start.args.c start.args.kind) start.requires.c_in_bounds in
@@ -16,19 +16,19 @@ loop-i-init c =
 pub put_gate-to-requires-clause-line_in_bounds : goal.put_gate-to-requires-clause-line_in_bounds
 put_gate-to-requires-clause-line_in_bounds c =
     let start = c in
-    let turn = c.loop-i.invariant in
-    let room = room_as _ c.loop-i.out (line_here _ (gate_line _) _ _ _ _ turn.0.place) (turn_room turn.1 (omega arith)) in
+    let turn = c.loop.invariant in
+    let room = room_as _ c.loop.out (line_here _ (gate_line _) _ _ _ _ turn.0.place) (turn_room turn.1 (omega arith)) in
     room
 
-pub loop-i-preserved : goal.loop-i-preserved
-loop-i-preserved c =
+pub loop-preserved : goal.loop-preserved
+loop-preserved c =
     let after_put_gate = c in
     let turn_at = after_put_gate in
-    let turn = turn_at.loop-i.invariant in
+    let turn = turn_at.loop.invariant in
     let wrote = wrote_as (sym (line_here _ (gate_line _) _ _ _ _ turn.0.place)) after_put_gate.put_gate-to.ensures in
     (cursor_next turn.0 (omega arith) _ c.next_line-line.ensures.0, turn_next turn.1 (omega arith) wrote)
 
 pub returns : goal.returns
 returns c =
     let start = c in
-    wrote_as (sym (gates_are_parts start.args.text.now start.args.c start.args.kind)) (turn_end c.loop-i.invariant.1 (omega arith))
+    wrote_as (sym (gates_are_parts start.args.text.now start.args.c start.args.kind)) (turn_end c.loop.invariant.1 (omega arith))

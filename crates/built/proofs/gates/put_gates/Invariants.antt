@@ -1,14 +1,9 @@
--- `built::gates::put_gates` meets its contract. The loop's invariant: line i starts here, and the records of the gates before it are written. The
--- measure is how many gates are left. Assumes nothing.
+-- `built::gates::put_gates` meets its contract. The loop's invariant: line i starts here, and the records of the gates before it are written. Assumes nothing.
 use Rattle.built.specs.Sections.{gate_line, line_part}
 use Rattle.built.specs.Turns.{Turn}
 use Rattle.clause_count.specs.Rows.{Cursor}
 use Rattle.sections.specs.Whole.{circuit_at}
-use Prim.Native.Nat.{◌-◌}
 use Rattle.built.proofs.gates.put_gates.Given as goal
 
-abbrev pub invariant-loop-i : goal.invariant-loop-i
-invariant-loop-i l = Cursor l.text 3 l.initial.line l.count l.line l.i × Turn (line_part l.kind (gate_line (circuit_at l.text l.c)) l.text l.initial.line) l.count l.at l.initial.out l.i l.to l.out
-
-abbrev pub decreases-loop-i : goal.decreases-loop-i
-decreases-loop-i l = l.count - l.i
+abbrev pub invariant-loop : goal.invariant-loop
+invariant-loop l = Cursor l.text 3 l.initial.line l.end l.line l.counter × Turn (line_part l.kind (gate_line (circuit_at l.text l.c)) l.text l.initial.line) l.end l.at l.initial.out l.counter l.to l.out

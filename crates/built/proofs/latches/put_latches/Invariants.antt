@@ -1,14 +1,9 @@
--- `built::latches::put_latches` meets its contract. The loop's invariant: line i starts here, and the records of the latches before it are written.
--- The measure is how many latches are left. Assumes nothing.
+-- `built::latches::put_latches` meets its contract. The loop's invariant: line i starts here, and the records of the latches before it are written. Assumes nothing.
 use Rattle.built.specs.Sections.{latch_line, line_part}
 use Rattle.built.specs.Turns.{Turn}
 use Rattle.clause_count.specs.Rows.{Cursor}
 use Rattle.sections.specs.Whole.{circuit_at}
-use Prim.Native.Nat.{◌-◌}
 use Rattle.built.proofs.latches.put_latches.Given as goal
 
 abbrev pub invariant-loop-i : goal.invariant-loop-i
-invariant-loop-i l = Cursor l.text 2 l.initial.line l.count l.line l.i × Turn (line_part 3 (latch_line (circuit_at l.text l.c)) l.text l.initial.line) l.count l.at l.initial.out l.i l.to l.out
-
-abbrev pub decreases-loop-i : goal.decreases-loop-i
-decreases-loop-i l = l.count - l.i
+invariant-loop-i l = Cursor l.text 2 l.initial.line l.i-end l.line l.i × Turn (line_part 3 (latch_line (circuit_at l.text l.c)) l.text l.initial.line) l.i-end l.at l.initial.out l.i l.to l.out

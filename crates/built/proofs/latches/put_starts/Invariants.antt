@@ -1,13 +1,8 @@
--- `built::latches::put_starts` meets its contract. The loop's invariant: line i starts here, and the records of where the latches before it start are written.
--- The measure is how many latches are left. Assumes nothing.
+-- `built::latches::put_starts` meets its contract. The loop's invariant: line i starts here, and the records of where the latches before it start are written. Assumes nothing.
 use Rattle.built.specs.Sections.{start_line, line_part}
 use Rattle.built.specs.Turns.{Turn}
 use Rattle.clause_count.specs.Rows.{Cursor}
-use Prim.Native.Nat.{◌-◌}
 use Rattle.built.proofs.latches.put_starts.Given as goal
 
 abbrev pub invariant-loop-i : goal.invariant-loop-i
-invariant-loop-i l = Cursor l.text 2 l.initial.line l.count l.line l.i × Turn (line_part 2 start_line l.text l.initial.line) l.count l.at l.initial.out l.i l.to l.out
-
-abbrev pub decreases-loop-i : goal.decreases-loop-i
-decreases-loop-i l = l.count - l.i
+invariant-loop-i l = Cursor l.text 2 l.initial.line l.i-end l.line l.i × Turn (line_part 2 start_line l.text l.initial.line) l.i-end l.at l.initial.out l.i l.to l.out

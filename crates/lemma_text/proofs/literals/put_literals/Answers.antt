@@ -4,21 +4,21 @@ use Rattle.lemma_text.specs.Words.{word_rises}
 use Rattle.lemma_text.specs.Written.{byte_after, bytes_last, literal_at, Left, left_none, literal_room, literal_more}
 use Rattle.lemma_text.proofs.literals.put_literals.Goals as goal
 
-pub bounds-text-end : goal.bounds-text-end
-bounds-text-end c = byte_after _ _ _ c.digits_at-x.ensures c.loop-x.invariant.0
+pub bounds-text-x : goal.bounds-text-x
+bounds-text-x c = byte_after _ _ _ c.digits_at-x.ensures c.loop-x.invariant.0
 
-pub returns-then-text-end-eq10 : goal.returns-then-text-end-eq10
-returns-then-text-end-eq10 c =
+pub returns-then-text-x-eq10 : goal.returns-then-text-x-eq10
+returns-then-text-x-eq10 c =
     let word = c in
     let turn = word.loop-x.invariant in
-    left_none _ _ _ _ _ _ (bytes_last _ _ _ word.digits_at-x.ensures turn.0 c.if-text-end-eq10.true) turn.2
+    left_none _ _ _ _ _ _ (bytes_last _ _ _ word.digits_at-x.ensures turn.0 c.if-text-x-eq10.true) turn.2
 
 pub put_literal-requires-clause-at_in_bounds : goal.put_literal-requires-clause-at_in_bounds
 put_literal-requires-clause-at_in_bounds c =
     let left = c in
     let word = left in
     let turn = word.loop-x.invariant in
-    let here = literal_at _ _ _ word.digits_at-x.ensures turn.0 left.if-text-end-eq10.false in
+    let here = literal_at _ _ _ word.digits_at-x.ensures turn.0 left.if-text-x-eq10.false in
     let room = word.requires.from_in_bounds_2 in
     literal_room _ _ _ room _ _ _ here.bytes _ _ turn.2
 
@@ -27,7 +27,7 @@ put_literal-requires-clause-le_variable c =
     let left = c in
     let word = left in
     let turn = word.loop-x.invariant in
-    let here = literal_at _ _ _ word.digits_at-x.ensures turn.0 left.if-text-end-eq10.false in
+    let here = literal_at _ _ _ word.digits_at-x.ensures turn.0 left.if-text-x-eq10.false in
     let room = word.requires.from_in_bounds_2 in
     here.low
 
@@ -36,7 +36,7 @@ put_literal-requires-clause-variable_bound c =
     let left = c in
     let word = left in
     let turn = word.loop-x.invariant in
-    let here = literal_at _ _ _ word.digits_at-x.ensures turn.0 left.if-text-end-eq10.false in
+    let here = literal_at _ _ _ word.digits_at-x.ensures turn.0 left.if-text-x-eq10.false in
     let room = word.requires.from_in_bounds_2 in
     here.high
 
@@ -51,7 +51,7 @@ loop-x-preserved c =
     let left = c in
     let word = left in
     let turn = word.loop-x.invariant in
-    let here = literal_at _ _ _ word.digits_at-x.ensures turn.0 left.if-text-end-eq10.false in
+    let here = literal_at _ _ _ word.digits_at-x.ensures turn.0 left.if-text-x-eq10.false in
     let room = word.requires.from_in_bounds_2 in
     let inside = byte_after _ _ _ word.digits_at-x.ensures turn.0 in
     let more = literal_more _ _ _ room _ _ _ here.bytes _ _ turn.2 in
