@@ -1,6 +1,6 @@
 // One line of a lemma text: signed latch numbers closed by 0.
 ghost use Rattle.std.specs.Prelude.{◌≡◌, ◌<◌, ◌≤◌, length};
-ghost use Rattle.lemma_text.specs.Words.{WordAt};
+ghost use Rattle.lemma_text.specs.Words.{WordAt, digits_start};
 ghost use Rattle.lemma_text.specs.Line.{line_from};
 
 use lines::number::{Number, number_at};
@@ -12,15 +12,32 @@ pub struct Line {
     pub count: usize,
 }
 
-// The digits of the word that starts at a place, after its '-' if it has one.
-pub fn digits_at(text: &[u8], at: usize) -> Number
+// A word: where its digits start, after its '-' if it has one, and they.
+#[derive(Clone, Copy)]
+pub struct Word<'a> {
+    pub start: usize,
+    pub number: Number<'a>,
+}
+
+// Where the digits of the word at a place start.
+fn digits_start(text: &[u8], at: usize) -> usize
+    requires { at ≤ length text.now }
+    ensures { (result ≡ digits_start text.now at) × (result ≤ length text.now) }
+{
+    if at < text.len() && text[at] == b'-' {
+        return at + 1;
+    }
+    at
+}
+
+// The word that starts at a place.
+pub fn word_at(text: &[u8], at: usize) -> Word<'_>
     requires { at ≤ length text.now }
     ensures { WordAt text.now at result }
 {
-    if at < text.len() && text[at] == b'-' {
-        return number_at(text, at + 1);
-    }
-    number_at(text, at)
+    let start = digits_start(text, at);
+    let number = number_at(text, start);
+    Word { start, number }
 }
 
 // The line at a place, word by word; none where it is no lemma.
@@ -32,25 +49,26 @@ pub fn line_at(text: &[u8], at: usize, latches: usize) -> Option<Line>
     let mut p = at;
     let mut count: usize = 0;
     loop {
-        let x = digits_at(text, p);
-        if text.len() <= x.end || x.end == x.start {
+        let x = word_at(text, p);
+        let end = x.start + x.number.digits.len();
+        if text.len() <= end || x.number.digits.is_empty() {
             return None;
         }
-        match text[x.end] {
+        match text[end] {
             b'\n' => {
-                if p < x.start || 0 < x.value {
+                if p < x.start || 0 < x.number.value {
                     return None;
                 }
                 return Some(Line {
-                    past: x.end + 1,
+                    past: end + 1,
                     count,
                 });
             }
             b' ' => {
-                if !(1..=latches).contains(&x.value) {
+                if !(1..=latches).contains(&x.number.value) {
                     return None;
                 }
-                p = x.end + 1;
+                p = end + 1;
                 count += 1;
             }
             _ => return None,

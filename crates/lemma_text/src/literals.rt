@@ -3,7 +3,7 @@ ghost use Rattle.std.specs.Prelude.{◌≡◌, ◌+◌, ◌≤◌, length};
 ghost use Rattle.records.specs.Put.{put};
 ghost use Rattle.lemma_text.specs.Written.{Writable, lemma_bytes};
 
-use crate::line::digits_at;
+use crate::line::word_at;
 use records::put_literal;
 
 // Writes them from a place on, and says where they end.
@@ -16,12 +16,13 @@ pub fn put_literals(text: &[u8], from: usize, out: &mut [u8], at: usize) -> usiz
     let mut p = from;
     let mut to = at;
     loop {
-        let x = digits_at(text, p);
-        if text[x.end] == b'\n' {
+        let x = word_at(text, p);
+        let end = x.start + x.number.digits.len();
+        if text[end] == b'\n' {
             return to;
         }
-        put_literal(out, to, p < x.start, x.value);
+        put_literal(out, to, p < x.start, x.number.value);
         to += 2;
-        p = x.end + 1;
+        p = end + 1;
     }
 }
