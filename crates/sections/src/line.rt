@@ -28,6 +28,48 @@ pub struct Form {
     pub counts: bool,
 }
 
+impl Form {
+    // An input.
+    pub const INPUT: Form = Form {
+        width: 1,
+        defines: true,
+        starts: false,
+        counts: false,
+    };
+
+    // A latch and its next literal, as in the edition of 2007: no start value follows.
+    pub const LATCH: Form = Form {
+        width: 2,
+        defines: true,
+        starts: false,
+        counts: false,
+    };
+
+    // A gate and its two literals.
+    pub const GATE: Form = Form {
+        width: 3,
+        defines: true,
+        starts: false,
+        counts: false,
+    };
+
+    // A literal that is used.
+    pub const USED: Form = Form {
+        width: 1,
+        defines: false,
+        starts: false,
+        counts: false,
+    };
+
+    // A count.
+    pub const COUNT: Form = Form {
+        width: 1,
+        defines: false,
+        starts: false,
+        counts: true,
+    };
+}
+
 // The lines that define variables before a line: inputs, latches, and those of its own section.
 #[derive(Clone, Copy)]
 pub struct Before {
@@ -52,7 +94,13 @@ fn defined_right(text: &[u8], judged: bool, m: &Number, before: Before, l: &Numb
     requires l_has_digits { 0 < length l.now.digits.now }
     ensures { result ≡ defined_right judged (worth m.now) (before_of text.now before) (worth l.now) }
 {
-    if !is_even(l) || l.value < 2 || !used_right(m, l) {
+    if !is_even(l) {
+        return false;
+    }
+    if l.value < 2 {
+        return false;
+    }
+    if !used_right(m, l) {
         return false;
     }
     !judged || !seen(text, before, l)

@@ -10,7 +10,8 @@ use Rattle.meaning.specs.Lines.{space, newline, until, line_at, ended, next_line
 use Rattle.meaning.specs.CircuitText.{Header, Symbol, positions, symbol_digits, symbol_of, same_symbol, symbol_right}
 use Rattle.laws.specs.Basics.{and_left, and_right}
 use Rattle.lines.specs.declared.number.Number.{Number}
-use Rattle.lines.specs.Numbers.{huge, capped, digits_of, span, worth, Stands}
+use Rattle.lines.specs.Digits.{huge, capped, digits_of}
+use Rattle.lines.specs.Numbers.{worth}
 use Rattle.symbols.specs.declared.Counts.{Counts}
 use Rattle.symbols.specs.Symbols.{header_from, Small, named_right, Named, Earlier, Listed, symbol}
 use Rattle.symbols.specs.Form.{some_byte, all_digits}
@@ -58,13 +59,13 @@ is_named text at counts inside small closed right =
     }
 
 -- the number after the letter is the position
-pub place_of : (text : List ℕ) (at : ℕ) → Named text at → (x : Number) → Stands text x → span text x ≡ digits_of (drop (at + 1) text)
+pub place_of : (text : List ℕ) (at : ℕ) → Named text at → (x : Number) → x.digits.now ≡ digits_of (drop (at + 1) text)
     → x.value ≡ (symbol_of (line_at text at)).at
 unfolding worth symbol_of capped
-place_of text at named x stands whole =
-    let same : worth text x ≡ (symbol_of (line_at text at)).at = ap decimal (whole ∙ sym named.digits) in
-    let below : worth text x < huge = omega (arith, same, named.small) in
-    stands.value ∙ (rw (lt-leb huge (worth text x) below) same)
+place_of text at named x whole =
+    let same : worth x ≡ (symbol_of (line_at text at)).at = ap decimal (whole ∙ sym named.digits) in
+    let below : worth x < huge = omega (arith, same, named.small) in
+    x.valued ∙ (rw (lt-leb huge (worth x) below) same)
 
 pub symbol_is : (text : List ℕ) (at : ℕ) → Named text at → (letter place : ℕ) → letter ≡ get_or text at 0
     → place ≡ (symbol_of (line_at text at)).at → symbol letter place ≡ symbol_of (line_at text at)

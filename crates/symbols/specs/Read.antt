@@ -1,13 +1,14 @@
 -- Symbol lines as far as they are read: all up to here are right, and what is left decides.
-use Rattle.std.specs.Prelude.{ℕ, ◌+◌, ◌≤◌, ◌<◌, ◌≡◌, Bool, true, false, List, [], ◌∷◌, ◌++◌, length}
+use Rattle.std.specs.Prelude.{ℕ, ◌+◌, ◌≤◌, ◌<◌, ◌≡◌, Bool, true, false, List, [], ◌∷◌, ◌++◌, length, Result, Ok, Err}
 use Rattle.std.proofs.Common.{arith, ◌∙◌}
 use Rattle.std.proofs.Math.Path.{refl, sym, ap, subst}
 use Rattle.std.proofs.Math.Option.{Option}
 use Rattle.meaning.specs.Lines.{line_at}
 use Rattle.meaning.specs.CircuitText.{Symbol, symbol_of, symbol_right, begins_comment, symbols_fault}
 use Rattle.symbols.specs.declared.Counts.{Counts}
-use Rattle.symbols.specs.declared.Fault.{Fault}
-use Rattle.symbols.specs.Symbols.{fault_of, header_from, Small, LineTo, Earlier, Listed}
+use Rattle.lines.specs.declared.fault.Fault.{Fault}
+use Rattle.lines.specs.Faults.{fault_of}
+use Rattle.symbols.specs.Symbols.{header_from, Small, LineTo, Earlier, Listed}
 use Rattle.symbols.specs.Walk.{no_more, not_closed, comment_here, wrong_here, right_here, is_closed, is_open, next_is}
 use Rattle.symbols.specs.Before.{earlier_more, is_named, form_right}
 
@@ -22,7 +23,7 @@ pub record Read (text : List ℕ) (counts : Counts) (judged : Bool) (at p : ℕ)
 
 module _ (text : List ℕ) (counts : Counts) (judged : Bool) (at : ℕ) where
   -- the answer
-  abbrev Whole : Fault
+  abbrev Whole : Result (Unit {0}) Fault
   Whole = fault_of (symbols_fault (length text) judged (header_from counts) text [] at)
 
   pub read_none : at ≤ length text → Read text counts judged at at
@@ -30,13 +31,13 @@ module _ (text : List ℕ) (counts : Counts) (judged : Bool) (at : ℕ) where
   read_none inside = record { listed = record { before = []; earlier = refl }; left = refl; inside = inside }
 
   module _ (p : ℕ) (read : Read text counts judged at p) where
-    pub read_all : length text ≤ p → record { found = false; at = 0 } ≡ Whole
+    pub read_all : length text ≤ p → Ok tt ≡ Whole
     unfolding fault_with fault_of
     read_all past =
         sym (ap fault_of (read.left ∙ no_more judged (header_from counts) text (length text) read.listed.before p past))
 
     module _ (end : ℕ) (line : LineTo text p end) (more : p < length text) where
-      pub cut_here : length text ≤ end → record { found = true; at = p } ≡ Whole
+      pub cut_here : length text ≤ end → Err (record { at = p }) ≡ Whole
       unfolding fault_with fault_of
       cut_here past =
           sym
@@ -45,7 +46,7 @@ module _ (text : List ℕ) (counts : Counts) (judged : Bool) (at : ℕ) where
           ∙ not_closed judged (header_from counts) text read.listed.before p more (is_open text p end line past)))
 
       module _ (closed : end < length text) where
-        pub comment_ends : true ≡ begins_comment (line_at text p) → record { found = false; at = 0 } ≡ Whole
+        pub comment_ends : true ≡ begins_comment (line_at text p) → Ok tt ≡ Whole
         unfolding fault_with fault_of
         comment_ends is =
             sym
@@ -59,7 +60,7 @@ module _ (text : List ℕ) (counts : Counts) (judged : Bool) (at : ℕ) where
           here : right ≡ symbol_right judged (header_from counts) read.listed.before (line_at text p)
           here = is read.listed.before read.listed.earlier
 
-          pub wrong_line : right ≡ false → record { found = true; at = p } ≡ Whole
+          pub wrong_line : right ≡ false → Err (record { at = p }) ≡ Whole
           unfolding fault_with fault_of
           wrong_line wrong =
               sym

@@ -7,17 +7,12 @@ pub mod symbol;
 
 ghost use Rattle.std.specs.Prelude.{◌≡◌, [], ◌≤◌, length};
 ghost use Rattle.meaning.specs.CircuitText.{symbols_fault};
-ghost use Rattle.symbols.specs.Symbols.{fault_of, header_from, Small};
+ghost use Rattle.lines.specs.Faults.{fault_of};
+ghost use Rattle.symbols.specs.Symbols.{header_from, Small};
 
 use line::{begins_comment, line_end};
+use lines::fault::Fault;
 use symbol::line_right;
-
-// The place of the first line at fault, if one is found.
-#[derive(Clone, Copy)]
-pub struct Fault {
-    pub found: bool,
-    pub at: usize,
-}
 
 // How many there are to name: inputs, latches, outputs, bad literals, constraints, justice properties and fairness constraints.
 #[derive(Clone, Copy)]
@@ -32,7 +27,7 @@ pub struct Counts {
 }
 
 // Symbol lines from a place on, in any order, then, perhaps, the comment. Whether a position is named twice is asked only where `judged`.
-pub fn symbols_fault(text: &[u8], counts: Counts, judged: bool, at: usize) -> Fault
+pub fn symbols_fault(text: &[u8], counts: Counts, judged: bool, at: usize) -> Result<(), Fault>
     requires at_in_bounds { at ≤ length text.now }
     requires small { Small counts }
     ensures { result ≡ fault_of (symbols_fault (length text.now) judged (header_from counts) text.now [] at) }
@@ -41,21 +36,15 @@ pub fn symbols_fault(text: &[u8], counts: Counts, judged: bool, at: usize) -> Fa
     while p < text.len() {
         let end = line_end(text, p);
         if text.len() <= end {
-            return Fault { found: true, at: p };
+            return Err(Fault { at: p });
         }
         if begins_comment(text, p, end) {
-            return Fault {
-                found: false,
-                at: 0,
-            };
+            return Ok(());
         }
         if !line_right(text, counts, judged, at, p, end) {
-            return Fault { found: true, at: p };
+            return Err(Fault { at: p });
         }
         p = end + 1;
     }
-    Fault {
-        found: false,
-        at: 0,
-    }
+    Ok(())
 }

@@ -9,14 +9,12 @@ pub fn line_end(text: &[u8], at: usize) -> usize
     requires { at ≤ length text.now }
     ensures { LineTo text.now at result }
 {
-    let mut p = at;
-    while p < text.len() {
-        if text[p] == 10 {
+    for p in at..text.len() {
+        if text[p] == b'\n' {
             return p;
         }
-        p += 1;
     }
-    p
+    text.len()
 }
 
 // A line 'c'.
@@ -25,8 +23,5 @@ pub fn begins_comment(text: &[u8], at: usize, end: usize) -> bool
     requires end_in_bounds { end < length text.now }
     ensures { result ≡ begins_comment (line_at text.now at) }
 {
-    if end != at + 1 {
-        return false;
-    }
-    text[at] == 99
+    end == at + 1 && text[at] == b'c'
 }

@@ -15,28 +15,16 @@ fn positions(counts: Counts, letter: u8) -> usize
     requires { Small counts }
     ensures { (result ≡ positions (header_from counts) letter) × (result < huge) }
 {
-    if letter == 105 {
-        return counts.i;
+    match letter {
+        b'i' => counts.i,
+        b'l' => counts.l,
+        b'o' => counts.o,
+        b'b' => counts.b,
+        b'c' => counts.c,
+        b'j' => counts.j,
+        b'f' => counts.f,
+        _ => 0,
     }
-    if letter == 108 {
-        return counts.l;
-    }
-    if letter == 111 {
-        return counts.o;
-    }
-    if letter == 98 {
-        return counts.b;
-    }
-    if letter == 99 {
-        return counts.c;
-    }
-    if letter == 106 {
-        return counts.j;
-    }
-    if letter == 102 {
-        return counts.f;
-    }
-    0
 }
 
 // A letter, at once a position below I, L, O, B, C, J or F, one space, a name of one byte at least.
@@ -50,11 +38,11 @@ pub fn named_right(text: &[u8], counts: Counts, at: usize, end: usize) -> bool
         return false;
     }
     let x = number_at(text, at + 1);
-    let past = x.end;
+    let past = at + 1 + x.digits.len();
     if end <= past + 1 {
         return false;
     }
-    if text[past] != 32 {
+    if text[past] != b' ' {
         return false;
     }
     if past == at + 1 {
@@ -69,8 +57,7 @@ fn position(text: &[u8], at: usize) -> usize
     requires named { Named text.now at }
     ensures { result ≡ (symbol_of (line_at text.now at)).at }
 {
-    let x = number_at(text, at + 1);
-    x.value
+    number_at(text, at + 1).value
 }
 
 // Whether a line names this position of this letter.
@@ -79,10 +66,7 @@ fn names(text: &[u8], at: usize, letter: u8, place: usize) -> bool
     requires named { Named text.now at }
     ensures { result ≡ same_symbol (symbol letter place) (symbol_of (line_at text.now at)) }
 {
-    if letter != text[at] {
-        return false;
-    }
-    place == position(text, at)
+    letter == text[at] && place == position(text, at)
 }
 
 // Whether one of the lines from the first on names the position that the line at a place names.
@@ -122,8 +106,5 @@ pub fn line_right(
     if !named_right(text, counts, at, end) {
         return false;
     }
-    if !judged {
-        return true;
-    }
-    !named_before(text, first, at)
+    !judged || !named_before(text, first, at)
 }

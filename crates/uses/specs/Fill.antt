@@ -105,6 +105,11 @@ module _ (d : List ℕ) (is : d ≡ replicate 10925 0) where
 
 -- ---- put together
 
+pub sources_most : (text : List ℕ) (c : Circuit) (u : ℕ) → source_of (circuit_at text c) u ≤ c.gates.count + 1
+sources_most text c u =
+    subst (λ (n : ℕ). source_of (circuit_at text c) u ≤ n + 1) (ap length (gates_are text c) ∙ variables_length text c.gates)
+    (source_most (circuit_at text c) u)
+
 pub filled_sized : (text : List ℕ) (c : Circuit) (left right d : List ℕ) → c.gates.count ≤ 10922 → Filled text c 1 left c.gates.count
     → Filled text c 2 right c.gates.count → length d ≡ 10925 → Sized left right d c.gates.count
 filled_sized text c left right d few l r long =
@@ -113,14 +118,9 @@ filled_sized text c left right d few l r long =
       left_long = omega (arith, l.long);
       right_long = omega (arith, r.long);
       done_long = omega (arith, long);
-      left_in = λ i h. subst (λ (a : ℕ). a ≤ c.gates.count + 1) (sym (l.is i h)) (most (var (gate_number text c 1 i)));
-      right_in = λ i h. subst (λ (a : ℕ). a ≤ c.gates.count + 1) (sym (r.is i h)) (most (var (gate_number text c 2 i)));
+      left_in = λ i h. subst (λ (a : ℕ). a ≤ c.gates.count + 1) (sym (l.is i h)) (sources_most text c (var (gate_number text c 1 i)));
+      right_in = λ i h. subst (λ (a : ℕ). a ≤ c.gates.count + 1) (sym (r.is i h)) (sources_most text c (var (gate_number text c 2 i)));
     }
-  where
-    most : (u : ℕ) → source_of (circuit_at text c) u ≤ c.gates.count + 1
-    most u =
-        subst (λ (n : ℕ). source_of (circuit_at text c) u ≤ n + 1) (ap length (gates_are text c) ∙ variables_length text c.gates)
-        (source_most (circuit_at text c) u)
 
 -- each gate line's mark says whether it can be worked out
 pub marks_are : (text : List ℕ) (c : Circuit) (left right d after : List ℕ) → Once (gate_variables (circuit_at text c))

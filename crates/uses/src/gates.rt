@@ -2,12 +2,6 @@
 ghost use Rattle.std.specs.Prelude.{◌≡◌, cond, ◌<◌};
 ghost use Rattle.uses.specs.Solve.{ready, after_step, Sized, Swept, Solved};
 
-fn wide(x: u16) -> usize
-    ensures { result ≡ x }
-{
-    x as usize
-}
-
 // Gate i is not worked out, and both its literals are.
 fn is_ready(
     left: &[u16; 10923],
@@ -23,10 +17,7 @@ fn is_ready(
     if done[i + 1] != 0 {
         return false;
     }
-    if done[wide(left[i])] == 0 {
-        return false;
-    }
-    done[wide(right[i])] != 0
+    done[usize::from(left[i])] != 0 && done[usize::from(right[i])] != 0
 }
 
 // Gate i, where it is ready, is worked out: 1, and else 0.
@@ -54,10 +45,8 @@ fn sweep(left: &[u16; 10923], right: &[u16; 10923], done: &mut [u8; 10925], coun
     ensures { Swept left.now right.now count done.old done.new result }
 {
     let mut made: usize = 0;
-    let mut i: usize = 0;
-    while i < count {
+    for i in 0..count {
         made += step(left, right, done, count, i);
-        i += 1;
     }
     made
 }

@@ -1,5 +1,6 @@
 -- `symbols::symbol::line_right` meets its contract. Assumes nothing.
-use mathlib.Core.Path.{sym, ◌∙◌}
+use mathlib.Core.Path.{sym, ap, ◌∙◌}
+use mathlib.Core.Bool.{not}
 use native.Mathlib.Omega.{arith}
 use Rattle.symbols.specs.Walk.{is_closed}
 use Rattle.symbols.specs.Before.{is_named, wrong_form, not_judged, is_judged}
@@ -10,15 +11,15 @@ returns-then-not-named_right c = λ before h. wrong_form _ _ before _ (sym c.nam
 
 pub returns-then-not-judged : goal.returns-then-not-judged
 returns-then-not-judged c = λ before h.
-    not_judged _ _ before _ (sym c.named_right.ensures ∙ c.if-not-named_right.false)
-    c.if-not-judged.true
+    ap not c.if-not-judged.true
+    ∙ not_judged _ _ before _ (sym c.named_right.ensures ∙ c.if-not-named_right.false) c.if-not-judged.true
 
 pub named_before-requires-clause-named : goal.named_before-requires-clause-named
 named_before-requires-clause-named c =
     let pre = c.requires in
     is_named _ _ _ (omega arith) pre.small (is_closed _ _ _ pre.line_to pre.end_in_bounds) (sym c.named_right.ensures ∙ c.if-not-named_right.false)
 
-pub returns : goal.returns
-returns c = λ before h.
+pub returns-else-not-judged : goal.returns-else-not-judged
+returns-else-not-judged c = λ before h.
     is_judged _ _ before _ (sym c.named_right.ensures ∙ c.if-not-named_right.false)
     c.if-not-judged.false _ (c.named_before.ensures before h)

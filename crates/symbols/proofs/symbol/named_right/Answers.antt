@@ -10,26 +10,25 @@ pub returns-then-end-past : goal.returns-then-end-past
 returns-then-end-past c =
     let x = c.number_at-x.ensures in
     let start = c.requires in
-    no_name _ _ _ start.line_to start.end_in_bounds c.if-end-at.false _ x.0 x.1 x.2 _ c.if-end-past.true
+    no_name _ _ _ start.line_to start.end_in_bounds c.if-end-at.false c.number_at-x.result x.digits _ c.if-end-past.true
 
 pub returns-then-text-past-ne32 : goal.returns-then-text-past-ne32
 returns-then-text-past-ne32 c =
     let x = c.number_at-x.ensures in
     let start = c.requires in
-    no_space _ _ _ start.line_to start.end_in_bounds c.if-end-at.false _ x.0 x.1 x.2 (omega arith) _
+    no_space _ _ _ start.line_to start.end_in_bounds c.if-end-at.false c.number_at-x.result x.digits (omega arith) _
     c.if-text-past-ne32.true
 
 pub returns-then-past-at : goal.returns-then-past-at
 returns-then-past-at c =
     let x = c.number_at-x.ensures in
     let start = c.requires in
-    no_digits _ _ _ start.line_to start.end_in_bounds c.if-end-at.false _ x.0 x.1 x.2
+    no_digits _ _ _ start.line_to start.end_in_bounds c.if-end-at.false c.number_at-x.result x.digits
     (omega arith) c.if-text-past-ne32.false _ c.if-past-at.true
 
 pub returns : goal.returns
 returns c =
     let x = c.number_at-x.ensures in
     let start = c.requires in
-    by_place _ _ _ start.line_to start.end_in_bounds c.if-end-at.false _ x.0
-    x.1 x.2 (omega arith) c.if-text-past-ne32.false _ c.if-past-at.false _
+    by_place _ _ _ start.line_to start.end_in_bounds c.if-end-at.false c.number_at-x.result x.digits (omega arith) c.if-text-past-ne32.false _ c.if-past-at.false _
     c.positions.ensures.0 c.positions.ensures.1
