@@ -41,20 +41,15 @@ fn variable_at(text: &[u8], c: Circuit, x: Number) -> usize
     if x.value < 2 {
         return 0;
     }
-    let latches = c.latches;
-    let n = latches.count;
-    let latch = find(text, latches, x);
-    if latch < n {
+    let n = c.latches.count;
+    if let Some(latch) = find(text, c.latches, x) {
         return latch + 1;
     }
-    let inputs = c.inputs;
-    let count = inputs.count;
-    let input = find(text, inputs, x);
-    if input < count {
+    if let Some(input) = find(text, c.inputs, x) {
         return n + n + input + 1;
     }
-    let gates = c.gates;
-    n + n + count + find(text, gates, x) + 1
+    let gate = find(text, c.gates, x).unwrap_or(c.gates.count);
+    n + n + c.inputs.count + gate + 1
 }
 
 // Number j of a line.
