@@ -1,5 +1,5 @@
 -- Laws by which causes are found: a line of so many numbers, and the counts of a header.
-use Rattle.std.specs.Prelude.{ℕ, ◌+◌, ◌≤◌, ◌<◌, ◌≡◌, Bool, true, false, not, ◌&&◌, cond, List, length, eqb}
+use Rattle.std.specs.Prelude.{ℕ, ◌+◌, ◌≤◌, ◌<◌, ◌≡◌, Bool, true, false, not, ◌&&◌, cond, List, length, eqb, refl, Option, Some, None, is_some}
 use Rattle.std.proofs.Common.{ap, ◌∙◌, arith, eq-eqb, ne_eqb, ltb-true, le-leb}
 use Rattle.meaning.specs.File.{between}
 use Rattle.meaning.specs.Lines.{line_at, ended, next_line, words, of_numbers}
@@ -54,7 +54,7 @@ row_part less h row =
     record { inside = row.inside; closed = row.closed; numbers = row.numbers; many = omega (arith, h, row.many) }
 
 -- how many numbers follow 'aag' and its space
-pub some_numbers : (text : List ℕ) (r : Option ℕ) → WidthIs text r → is_none r ≡ false → five_to_nine text ≡ true
+pub some_numbers : (text : List ℕ) (r : Option ℕ) → WidthIs text r → is_some r ≡ true → five_to_nine text ≡ true
 unfolding five_to_nine between
 some_numbers text None is some = absurd (cc)
 some_numbers text (Some r) is some =
@@ -65,7 +65,7 @@ some_numbers text (Some r) is some =
     let high : n ≤ 9 = omega (arith, count, is.few) in
     rw (is.closed, le-leb 5 n low, le-leb n 9 high) (numbers_all r line is.numbers)
 
-pub no_numbers : (text : List ℕ) (r : Option ℕ) → WidthIs text r → is_none r ≡ true → five_to_nine text ≡ false
+pub no_numbers : (text : List ℕ) (r : Option ℕ) → WidthIs text r → is_some r ≡ false → five_to_nine text ≡ false
 unfolding five_to_nine
 no_numbers text None is none = is
 no_numbers text (Some r) is none = absurd (cc)

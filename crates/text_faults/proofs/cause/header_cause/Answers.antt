@@ -1,5 +1,6 @@
 -- `text_faults::cause::header_cause` makes the definition's tests. Assumes nothing.
-use mathlib.Core.Path.{sym, ◌∙◌}
+use mathlib.Core.Path.{sym, ap, ◌∙◌}
+use mathlib.Core.Bool.{not}
 use Rattle.symbols.specs.Walk.{is_closed, is_open}
 use Rattle.circuit_text.specs.Header.{four_in}
 use Rattle.text_faults.specs.Causes.{header_cause}
@@ -25,10 +26,10 @@ pub returns-then-is_none : goal.returns-then-is_none
 unfolding header_cause
 returns-then-is_none c =
     let t = c.args.text.now in
-    rw (sym c.starts.ensures ∙ c.if-not-starts.false, is_closed t 0 c.line_end.result c.line_end.ensures c.if-text-line_end.false, no_numbers t c.width_of.result c.width_of.ensures (sym c.is_none.ensures ∙ c.if-is_none.true))
+    rw (sym c.starts.ensures ∙ c.if-not-starts.false, is_closed t 0 c.line_end.result c.line_end.ensures c.if-text-line_end.false, no_numbers t c.width_of.result c.width_of.ensures (c.is_none.ensures ∙ ap not c.if-is_none.true))
 
 pub returns : goal.returns
 unfolding header_cause
 returns c =
     let t = c.args.text.now in
-    rw (sym c.starts.ensures ∙ c.if-not-starts.false, is_closed t 0 c.line_end.result c.line_end.ensures c.if-text-line_end.false, some_numbers t c.width_of.result c.width_of.ensures (sym c.is_none.ensures ∙ c.if-is_none.false))
+    rw (sym c.starts.ensures ∙ c.if-not-starts.false, is_closed t 0 c.line_end.result c.line_end.ensures c.if-text-line_end.false, some_numbers t c.width_of.result c.width_of.ensures (c.is_none.ensures ∙ ap not c.if-is_none.false))
