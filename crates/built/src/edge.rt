@@ -42,16 +42,14 @@ fn variable_at(text: &[u8], c: Circuit, x: Number) -> usize
         return 0;
     }
     let n = c.latches.count;
-    let latch = find(text, c.latches, x);
-    if latch < n {
+    if let Some(latch) = find(text, c.latches, x) {
         return latch + 1;
     }
-    let count = c.inputs.count;
-    let input = find(text, c.inputs, x);
-    if input < count {
+    if let Some(input) = find(text, c.inputs, x) {
         return n + n + input + 1;
     }
-    n + n + count + find(text, c.gates, x) + 1
+    let gate = find(text, c.gates, x).unwrap_or(c.gates.count);
+    n + n + c.inputs.count + gate + 1
 }
 
 // Number j of a line.

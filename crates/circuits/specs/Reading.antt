@@ -19,8 +19,8 @@ use Rattle.meaning.specs.Circuits.{read_circuit, on_circuit, on_lemmas, over_lim
 use Rattle.circuit_laws.specs.Limits.{in_limits}
 use Rattle.circuit_laws.specs.AcceptedTexts.{accepted_fits}
 use Rattle.records.specs.Put.{put}
-use Rattle.circuit_text.specs.declared.read.Found.{Found}
-use Rattle.circuit_text.specs.declared.read.Found.TheVariants as found
+use Rattle.lines.specs.declared.fault.Fault.{Fault}
+use Rattle.std.specs.Prelude.{Ok, Err}
 use Rattle.circuit_text.specs.Read.{TextRead}
 use Rattle.lemma_text.specs.declared.Lemmas.{Lemmas}
 use Rattle.lemma_text.specs.Rest.{summary_of, lemmas_of, longest}
@@ -178,13 +178,11 @@ pub circuit_wrong : (text lemmas : List ℕ) (at : ℕ) → read_circuit_text te
 unfolding read_circuit on_circuit refusal_13
 circuit_wrong text lemmas at e = ap (on_circuit text lemmas) e
 
-module _ (text lemmas : List ℕ) (f : Found) (r : TextRead text f) where
-  pub found_fault : (at : ℕ) → f ≡ found.Fault at → read_circuit text lemmas ≡ rejected (record { number = 13; place = at })
-  found_fault at e = circuit_wrong text lemmas at (subst (TextRead text) e r)
+pub found_fault : (text lemmas : List ℕ) (e : Fault) → TextRead text (Err e) → read_circuit text lemmas ≡ rejected (record { number = 13; place = e.at })
+found_fault text lemmas e r = circuit_wrong text lemmas e.at r
 
-  pub found_whole : (c : Circuit) → f ≡ found.Whole c
-      → Whole text c × (read_circuit_text text ≡ CircuitText.right (circuit_at text c))
-  found_whole c e = let both = subst (TextRead text) e r in (both.1, both.0)
+pub found_whole : (text : List ℕ) (c : Circuit) → TextRead text (Ok c) → Whole text c × (read_circuit_text text ≡ CircuitText.right (circuit_at text c))
+found_whole text c r = (r.1, r.0)
 
 -- ---- the file
 

@@ -7,7 +7,7 @@ ghost use Rattle.circuits.specs.Reading.{Judged, FiledAs};
 
 use crate::limits::{Counted, over_limits};
 use built::write_problem;
-use circuit_text::read::{Found, read_circuit};
+use circuit_text::read::read_circuit;
 use clause_count::clause_count;
 use lemma_text::read_lemmas;
 use sections::circuit::{Circuit, Properties};
@@ -72,10 +72,9 @@ fn judge(text: &[u8], c: Circuit, lemmas: &[u8]) -> Texts
 fn read_texts(text: &[u8], lemmas: &[u8]) -> Texts
     ensures { Judged text.now lemmas.now result }
 {
-    let read = read_circuit(text);
-    match read {
-        Found::Fault(at) => Texts::Refused(13, at),
-        Found::Whole(c) => judge(text, c, lemmas),
+    match read_circuit(text) {
+        Err(fault) => Texts::Refused(13, fault.at),
+        Ok(c) => judge(text, c, lemmas),
     }
 }
 

@@ -1,5 +1,5 @@
 -- Where a latch starts, by its line: the third number, which a line may lack.
-use Rattle.std.specs.Prelude.{ℕ, zero, suc, ◌≤◌, ◌<◌, ◌≡◌, refl, ◌⊎◌, Bool, true, Option, Some, None, List, [], ◌∷◌, get_or, leb}
+use Rattle.std.specs.Prelude.{ℕ, zero, suc, ◌≤◌, ◌<◌, ◌≡◌, refl, ◌⊎◌, Bool, true, false, List, [], ◌∷◌, get_or, leb, Option, Some, None, is_some}
 use Rattle.std.proofs.Common.{arith, ap, ◌∙◌, inl, inr}
 use Rattle.std.proofs.Math.Path.{sym}
 use Rattle.std.proofs.Math.Bool.{false}
@@ -13,7 +13,7 @@ use Rattle.laws.specs.Basics.{bool_cases, and_both, not_both}
 use Rattle.lines.specs.Numbers.{huge, capped}
 use Rattle.lines.specs.Literals.{capped_below}
 use Rattle.lines.specs.Past.{line_past}
-use Rattle.sections.specs.LineOf.{past_zero, past_some}
+use Rattle.sections.specs.LineOf.{past_none, past_some}
 use Rattle.sections.specs.Split.{numbers_count}
 use Rattle.clause_count.specs.Rows.{RowAt}
 
@@ -34,16 +34,16 @@ past_last [] k h = refl
 past_last (a ∷ ns) zero h = absurd (omega arith)
 past_last (a ∷ ns) (suc k) h = past_last ns k (omega arith)
 
-module _ (text : List ℕ) (line : ℕ) (row : RowAt text 2 line) (r : ℕ) (is : r ≡ line_past 2 text line) where
-  pub third_lacks : (r ≡ 0 → ⊥) → Some false ≡ start_in (numbers_at text line)
+module _ (text : List ℕ) (line : ℕ) (row : RowAt text 2 line) (r : Option ℕ) (is : r ≡ line_past 2 text line) (b : Bool) (told : b ≡ is_some r) where
+  pub third_lacks : b ≡ true → Some false ≡ start_in (numbers_at text line)
   unfolding start_in start_of start_code numbers_at
   third_lacks some =
-      let two = numbers_count 2 (line_at text line) (past_some 2 text line r is some).1 in
+      let two = numbers_count 2 (line_at text line) (past_some 2 text line r is b told some).1 in
       sym
       (ap (λ (z : ℕ). start_code (start_of z))
       (past_last (numbers_at text line) 2 (omega (arith, two, length-map (words (line_at text line)) decimal))))
 
-  pub third_stands : r ≡ 0 → RowAt text 3 line
+  pub third_stands : b ≡ false → RowAt text 3 line
   unfolding of_numbers
   third_stands none =
       record { inside = row.inside; closed = row.closed; numbers = row.numbers; wide = go (bool_cases (eqb (length (words (line_at text line))) 2)) }
@@ -53,7 +53,7 @@ module _ (text : List ℕ) (line : ℕ) (row : RowAt text 2 line) (r : ℕ) (is 
       go (inl t) =
           absurd
           (not_both (and_both (ended text line) (of_numbers 2 (line_at text line)) row.closed (and_both _ _ t row.numbers))
-          (past_zero 2 text line r is none))
+          (past_none 2 text line r is b told none))
       go (inr t) = omega (arith, eqb-false (length (words (line_at text line))) 2 t, row.wide)
 
 -- ---- what a number below the bound decides

@@ -21,7 +21,7 @@ pub fn start_at(text: &[u8], line: usize) -> Option<bool>
     requires { RowAt text.now 2 line }
     ensures { result ≡ start_in (numbers_at text.now line) }
 {
-    if line_past(text, line, 2) != 0 {
+    if line_past(text, line, 2).is_some() {
         return Some(false);
     }
     match value_at(text, line, 2) {

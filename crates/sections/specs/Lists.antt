@@ -1,7 +1,7 @@
 -- So many lines from a place on, whatever they hold; what each starts with where it is a line of numbers.
 use Prim.Native.Nat.{ℕ, zero, suc, ◌+◌, ◌-◌, ◌≤◌, ◌<◌}
 use Rattle.std.proofs.Common.{arith, sym, subst, ◌∙◌, inl, inr, true≢false, lt-ltb, le-ltb, ltb-true, ltb-false, eqb-true}
-use Rattle.std.specs.Prelude.{◌≡◌, ◌⊎◌, Bool, true, false, ◌||◌, cond, length, drop, ltb, eqb, Option, Some, None, is_some}
+use Rattle.std.specs.Prelude.{◌≡◌, ◌⊎◌, Bool, true, false, ◌||◌, cond, length, drop, ltb, eqb, Option, Some, None, is_some, unwrap_or, IfSome}
 use Rattle.std.proofs.Math.Path.{refl, ap}
 use mathlib.Core.List.{List, [], ◌∷◌, ◌++◌, map, append-nil}
 use Rattle.std.proofs.Math.ListN.{get_or}
@@ -195,6 +195,30 @@ defines_is text s u r is =
     ap (λ (k : ℕ). ltb k s.count) is
     ∙ ap (ltb (position u (variables_of text s))) (sym (variables_length text s))
     ∙ among_position u (variables_of text s)
+
+-- where none is found the position is the number of lines
+pub nowhere : (text : List ℕ) (s : Lines) (u : ℕ) → None ≡ found_at u (variables_of text s) → position u (variables_of text s) ≡ s.count
+unfolding position among any
+nowhere text s u is =
+    past_all (variables_of text s) (found_none u (variables_of text s) is) ∙ variables_length text s
+  where
+    past_all : (us : List ℕ) → among u us ≡ false → position u us ≡ length us
+    past_all [] e = refl
+    past_all (v ∷ us) e = go (eqb u v) e (past_all us)
+      where
+        go : (b : Bool) → (b || any (eqb u) us) ≡ false → (any (eqb u) us ≡ false → position u us ≡ length us)
+            → cond b 0 (suc (position u us)) ≡ suc (length us)
+        go true h on = absurd (true≢false h)
+        go false h on = ap suc (on h)
+
+pub found_or : (text : List ℕ) (s : Lines) (u : ℕ) (r : Option ℕ) → r ≡ found_at u (variables_of text s)
+    → unwrap_or r s.count ≡ position u (variables_of text s)
+found_or text s u None is = sym (nowhere text s u is)
+found_or text s u (Some i) is = (found_some u (variables_of text s) i is).1
+
+pub found_most : (r : Option ℕ) (n : ℕ) → IfSome r (λ i. i < n) → unwrap_or r n ≤ n
+found_most None n h = omega arith
+found_most (Some i) n h = omega (arith, h)
 
 -- the position below the number of lines is where it is found
 pub found_below : (text : List ℕ) (s : Lines) (u i : ℕ) → i ≡ position u (variables_of text s) → i < s.count

@@ -1,5 +1,5 @@
 -- Laws by which causes are found: a line of so many numbers, and the counts of a header.
-use Rattle.std.specs.Prelude.{ℕ, ◌+◌, ◌≤◌, ◌<◌, ◌≡◌, Bool, true, false, not, ◌&&◌, cond, List, length, eqb}
+use Rattle.std.specs.Prelude.{ℕ, ◌+◌, ◌≤◌, ◌<◌, ◌≡◌, Bool, true, false, not, ◌&&◌, cond, List, length, eqb, refl, Option, Some, None, is_some}
 use Rattle.std.proofs.Common.{ap, ◌∙◌, arith, eq-eqb, ne_eqb, ltb-true, le-leb}
 use Rattle.meaning.specs.File.{between}
 use Rattle.meaning.specs.Lines.{line_at, ended, next_line, words, of_numbers}
@@ -27,14 +27,14 @@ chosen b x y e = rw e
 pub passed : {A : Type 0} (b : Bool) (x y : A) → b ≡ false → cond b x y ≡ y
 passed b x y e = rw e
 
--- the place after a line of so many numbers is no 0
-pub numbered_is : (width : ℕ) (text : List ℕ) (at r : ℕ) → r ≡ line_past width text at → not (eqb r 0) ≡ numbered width text at
-unfolding numbered line_past next_line
-numbered_is width text at r is = go (ended text at && of_numbers width (line_at text at)) is
+-- a place after a line of so many numbers tells that it is one
+pub numbered_is : (width : ℕ) (text : List ℕ) (at : ℕ) (r : Option ℕ) → r ≡ line_past width text at → is_some r ≡ numbered width text at
+unfolding numbered line_past
+numbered_is width text at r is = ap is_some is ∙ go (ended text at && of_numbers width (line_at text at))
   where
-    go : (b : Bool) → r ≡ cond b (next_line text at) 0 → not (eqb r 0) ≡ b
-    go true h = ap not (ne_eqb r 0 (λ e. omega (arith, h, e)))
-    go false h = ap not (eq-eqb r 0 h)
+    go : (b : Bool) → is_some (cond b (Some (next_line text at)) None) ≡ b
+    go true = refl
+    go false = refl
 
 pub row_of : (text : List ℕ) (at width : ℕ) → at < length text → numbered width text at ≡ true → Row text at width
 unfolding numbered
@@ -54,19 +54,21 @@ row_part less h row =
     record { inside = row.inside; closed = row.closed; numbers = row.numbers; many = omega (arith, h, row.many) }
 
 -- how many numbers follow 'aag' and its space
-pub some_numbers : (text : List ℕ) (r : ℕ) → WidthIs text r → (r ≡ 0 → ⊥) → five_to_nine text ≡ true
+pub some_numbers : (text : List ℕ) (r : Option ℕ) → WidthIs text r → is_some r ≡ true → five_to_nine text ≡ true
 unfolding five_to_nine between
-some_numbers text r is some =
+some_numbers text None is some = absurd (cc)
+some_numbers text (Some r) is some =
     let line = line_at text 4 in
     let n = length (words line) in
-    let count = numbers_count r line (is.numbers some) in
-    let low : 5 ≤ n = omega (arith, count, is.least some) in
+    let count = numbers_count r line is.numbers in
+    let low : 5 ≤ n = omega (arith, count, is.least) in
     let high : n ≤ 9 = omega (arith, count, is.few) in
-    rw (is.closed some, le-leb 5 n low, le-leb n 9 high) (numbers_all r line (is.numbers some))
+    rw (is.closed, le-leb 5 n low, le-leb n 9 high) (numbers_all r line is.numbers)
 
-pub no_numbers : (text : List ℕ) (r : ℕ) → WidthIs text r → r ≡ 0 → five_to_nine text ≡ false
+pub no_numbers : (text : List ℕ) (r : Option ℕ) → WidthIs text r → is_some r ≡ false → five_to_nine text ≡ false
 unfolding five_to_nine
-no_numbers text r is none = is.none none
+no_numbers text None is none = is
+no_numbers text (Some r) is none = absurd (cc)
 
 -- a line that is ended ends before the text does
 pub closed_end : (text : List ℕ) (at end : ℕ) → LineTo text at end → ended text at ≡ true → end < length text

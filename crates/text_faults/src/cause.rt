@@ -43,7 +43,7 @@ pub fn numbered(text: &[u8], at: usize, width: usize) -> bool
     requires le_width { 1 ≤ width }
     ensures { result ≡ numbered width text.now at }
 {
-    line_past(text, at, width) != 0
+    line_past(text, at, width).is_some()
 }
 
 // A header that is not right: another text altogether, not ended, or not as it should be.
@@ -56,7 +56,7 @@ pub fn header_cause(text: &[u8]) -> Cause
     if text.len() <= line_end(text, 0) {
         return Cause::Open;
     }
-    if width_of(text) == 0 {
+    if width_of(text).is_none() {
         return Cause::HeaderNumbers;
     }
     Cause::HeaderSum

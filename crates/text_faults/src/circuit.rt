@@ -133,10 +133,9 @@ fn header_fault(text: &[u8]) -> Fault
 pub fn circuit_fault(text: &[u8], at: usize) -> Fault
     ensures { result ≡ circuit_fault text.now at }
 {
-    let h = read_header(text);
-    if !h.right {
+    let Some(h) = read_header(text) else {
         return header_fault(text);
-    }
+    };
     let s = sizes_of(text, h);
     let kind = kind_of(s, line_number(text, at));
     Fault {
@@ -149,10 +148,9 @@ pub fn circuit_fault(text: &[u8], at: usize) -> Fault
 pub fn latches_of(text: &[u8]) -> usize
     ensures { (result ≡ latches_of text.now) × (result < 18446744073709551610) }
 {
-    let h = read_header(text);
-    if !h.right {
+    let Some(h) = read_header(text) else {
         return 0;
-    }
+    };
     let l = h.l;
     below_huge(l.value)
 }

@@ -8,7 +8,7 @@ ghost use Rattle.text_faults.specs.Latches.{start_cause, third_cause, latch_numb
 
 use crate::cause::{Cause, literals_cause, numbered};
 use crate::definers::Places;
-use lines::compare::compare;
+use lines::compare::is_sum;
 use lines::number::Number;
 use sections::nth::nth;
 
@@ -21,13 +21,7 @@ fn starts_right(text: &[u8], at: usize) -> bool
     if start.value < 2 {
         return true;
     }
-    let own = nth(text, at, 0);
-    let none = Number {
-        start: at,
-        end: at,
-        value: 0,
-    };
-    compare(text, start, none, none, 0, own) == 1
+    is_sum(text, start, 0, nth(text, at, 0))
 }
 
 // A latch of edition 1.9 with a start value.

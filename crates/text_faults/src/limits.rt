@@ -134,9 +134,8 @@ pub fn limit_of(text: &[u8], lemmas: &[u8]) -> Limit
     if 65536 < lemmas.len() {
         return Limit::LongLemmas;
     }
-    let h = read_header(text);
-    if !h.right {
+    let Some(h) = read_header(text) else {
         return Limit::Nothing;
-    }
+    };
     header_limit(text, h, lemmas)
 }

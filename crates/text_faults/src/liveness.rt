@@ -15,13 +15,12 @@ pub struct Liveness {
 pub fn liveness_of(text: &[u8]) -> Liveness
     ensures { result ≡ liveness_of text.now }
 {
-    let h = read_header(text);
-    if !h.right {
+    let Some(h) = read_header(text) else {
         return Liveness {
             justice: 0,
             fairness: 0,
         };
-    }
+    };
     let j = h.j;
     let f = h.f;
     Liveness {

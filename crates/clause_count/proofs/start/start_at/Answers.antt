@@ -3,11 +3,11 @@ use native.Mathlib.Omega.{arith}
 use Rattle.clause_count.specs.Start.{third_lacks, third_stands, start_at_0, start_at_1, start_free, start_in}
 use Rattle.clause_count.proofs.start.start_at.Goals as goal
 
-pub returns-then-line_past-ne0 : goal.returns-then-line_past-ne0
-returns-then-line_past-ne0 c = third_lacks _ _ c.requires _ c.line_past.ensures.0 c.if-line_past-ne0.true
+pub returns-then-is_some : goal.returns-then-is_some
+returns-then-is_some c = third_lacks _ _ c.requires _ c.line_past.ensures.0 _ c.is_some.ensures c.if-is_some.true
 
 pub value_at-requires : goal.value_at-requires
-value_at-requires c = third_stands _ _ c.requires _ c.line_past.ensures.0 c.if-line_past-ne0.false
+value_at-requires c = third_stands _ _ c.requires _ c.line_past.ensures.0 _ c.is_some.ensures c.if-is_some.false
 
 pub returns-in-0 : goal.returns-in-0
 unfolding start_in

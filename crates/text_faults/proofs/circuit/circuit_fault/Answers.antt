@@ -6,17 +6,17 @@ use Rattle.text_faults.specs.Circuits.{circuit_fault}
 use Rattle.text_faults.specs.CauseLaws.{fault_is}
 use Rattle.text_faults.proofs.circuit.circuit_fault.Goals as goal
 
-pub returns-then-not-h : goal.returns-then-not-h
+pub returns-in_default : goal.returns-in_default
 unfolding circuit_fault
-returns-then-not-h c =
-    rw (sym c.read_header-h.ensures.right ∙ not-true _ c.if-not-h.true) c.header_fault.ensures
+returns-in_default c =
+    rw (c.in_default.ensures) c.header_fault.ensures
 
 pub returns : goal.returns
 unfolding circuit_fault
 returns c =
-    let h = c.read_header-h in
-    let parts = h.ensures.parts (not-false _ c.if-not-h.false) in
+    let h = c.in-Some.h in
+    let parts = c.in-Some.ensures.parts in
     let t = c.args.text.now in
-    rw (sym h.ensures.right ∙ not-false _ c.if-not-h.false)
-    (fault_is t c.args.at (header_at t h.result) _ c.sizes_of-s.result c.kind_of-kind.result c.line_cause.result c.line_number.result h.result.next parts.worths
+    rw (c.in-Some.ensures.right)
+    (fault_is t c.args.at (header_at t h) _ c.sizes_of-s.result c.kind_of-kind.result c.line_cause.result c.line_number.result h.next parts.worths
     c.line_number.ensures parts.next_is c.sizes_of-s.ensures c.kind_of-kind.ensures c.line_cause.ensures)

@@ -8,16 +8,16 @@ use Rattle.lines.specs.Numbers.{capped}
 use Rattle.text_faults.specs.Circuits.{below_huge, latches_of}
 use Rattle.text_faults.proofs.circuit.latches_of.Goals as goal
 
-pub returns-then-not-h : goal.returns-then-not-h
+pub returns-in_default : goal.returns-in_default
 unfolding latches_of
-returns-then-not-h c =
-    (rw (sym c.read_header-h.ensures.right ∙ not-true _ c.if-not-h.true), omega arith)
+returns-in_default c =
+    (rw (c.in_default.ensures), omega arith)
 
 pub returns : goal.returns
 unfolding latches_of header_at
 returns c =
-    let parts = c.read_header-h.ensures.parts (not-false _ c.if-not-h.false) in
+    let parts = c.in-Some.ensures.parts in
     let value = parts.l.value ∙ ap (λ (h : Header). capped h.l) parts.worths in (
-      rw (sym c.read_header-h.ensures.right ∙ not-false _ c.if-not-h.false) (c.below_huge.ensures.0 ∙ ap below_huge value),
+      rw (c.in-Some.ensures.right) (c.below_huge.ensures.0 ∙ ap below_huge value),
       c.below_huge.ensures.1,
     )

@@ -1,7 +1,8 @@
 -- `text_faults::latch::starts_right` makes the definition's test. Assumes nothing.
 use native.Mathlib.Omega.{arith}
-use Rattle.lines.specs.Literals.{nothing_stands}
-use Rattle.sections.specs.LineOf.{same_order}
+use Rattle.std.specs.Prelude.{◌≡◌, ℕ, ◌+◌, eqb}
+use Rattle.std.proofs.Common.{ap, ◌∙◌}
+use Rattle.lines.specs.Numbers.{worth}
 use Rattle.text_faults.specs.Latches.{starts_constant, starts_own}
 use Rattle.text_faults.proofs.latch.starts_right.Goals as goal
 
@@ -10,20 +11,10 @@ returns-then-start-lt2 c =
     let a = c.args in
     starts_constant a.text.now a.at c.nth-start.result c.nth-start.ensures.0 c.nth-start.ensures.1 c.if-start-lt2.true
 
-pub compare-requires-clause-stands_2 : goal.compare-requires-clause-stands_2
-compare-requires-clause-stands_2 c =
-    let a = c.args in
-    let none = nothing_stands a.text.now a.at (omega (arith, c.requires.inside)) in
-    none
-
-pub compare-requires-clause-stands_3 : goal.compare-requires-clause-stands_3
-compare-requires-clause-stands_3 c =
-    let a = c.args in
-    let none = nothing_stands a.text.now a.at (omega (arith, c.requires.inside)) in
-    none
-
 pub returns : goal.returns
 returns c =
     let a = c.args in
-    starts_own a.text.now a.at c.nth-start.result c.nth-start.ensures.0 c.nth-start.ensures.1 c.if-start-lt2.false _ c.nth-own.ensures.1 _
-    (same_order a.text.now c.nth-start.result _ a.at _ c.compare.ensures)
+    let start = c.nth-start.result in
+    let alone : worth a.text.now start + 0 ≡ worth a.text.now start = omega arith in
+    starts_own a.text.now a.at start c.nth-start.ensures.0 c.nth-start.ensures.1 c.if-start-lt2.false _ c.nth.ensures.1 _
+    (c.is_sum.ensures ∙ ap (λ (v : ℕ). eqb v (worth a.text.now c.nth.result)) alone)

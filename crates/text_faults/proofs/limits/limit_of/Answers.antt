@@ -17,22 +17,22 @@ unfolding limit_of
 returns-then-lemmas-gt65536 c =
     rw (le-ltb 65536 (length c.args.text.now) c.if-text-gt65536.false, lt-ltb 65536 (length c.args.lemmas.now) c.if-lemmas-gt65536.true)
 
-pub returns-then-not-h : goal.returns-then-not-h
+pub returns-in_default : goal.returns-in_default
 unfolding limit_of
-returns-then-not-h c =
+returns-in_default c =
     rw (
       le-ltb 65536 (length c.args.text.now) c.if-text-gt65536.false,
       le-ltb 65536 (length c.args.lemmas.now) c.if-lemmas-gt65536.false,
-      sym c.read_header-h.ensures.right ∙ not-true _ c.if-not-h.true,
+      c.in_default.ensures,
     )
 
 pub returns : goal.returns
 unfolding limit_of header_at
 returns c =
-    let parts = c.read_header-h.ensures.parts (not-false _ c.if-not-h.false) in
+    let parts = c.in-Some.ensures.parts in
     rw (
       le-ltb 65536 (length c.args.text.now) c.if-text-gt65536.false,
       le-ltb 65536 (length c.args.lemmas.now) c.if-lemmas-gt65536.false,
-      sym c.read_header-h.ensures.right ∙ not-false _ c.if-not-h.false,
+      c.in-Some.ensures.right,
     )
     (c.header_limit.ensures ∙ ap (λ (h : Header). header_limit h c.args.lemmas.now) parts.worths)
