@@ -33,7 +33,7 @@ impl Refusal {
         ensures { result ≡ place_of self }
     {
         match self {
-            Refusal::Line(fault) => fault.at,
+            Refusal::Line(f) => f.at,
             _ => 0,
         }
     }
