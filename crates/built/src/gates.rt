@@ -9,26 +9,23 @@ ghost use Rattle.built.specs.Edges.{edge_of, Small};
 ghost use Rattle.built.specs.Sections.{gate_clauses};
 ghost use Rattle.built.specs.Wrote.{Wrote};
 
-use crate::clause::{put_clause, put_two_edges};
-use crate::edge::{Edge, edge_at, opposite};
+use crate::clause::put_clause;
+use crate::edge::{Edge, edge_at};
 use lines::line::next_line;
 use sections::circuit::Circuit;
 
 // The three clauses that make g the conjunction of a and b.
 fn put_and(out: &mut [u8], at: usize, kind: usize, g: Edge, a: Edge, b: Edge) -> usize
     requires kind_bound { kind < 65536 }
-    requires variable_bound { g.variable ≤ 32767 }
-    requires variable_bound_2 { a.variable ≤ 32767 }
-    requires variable_bound_3 { b.variable ≤ 32767 }
     requires b_in_bounds { at + length (clause_records kind (and_clauses (edge_of g) (edge_of a) (edge_of b))) ≤ length out.old }
     ensures { Wrote (clause_records kind (and_clauses (edge_of g) (edge_of a) (edge_of b))) at out.old result out.new }
 {
-    let not_g = opposite(g);
-    let not_a = opposite(a);
-    let not_b = opposite(b);
-    let to = put_two_edges(out, at, kind, a, not_g);
-    let on = put_two_edges(out, to, kind, b, not_g);
-    put_clause(out, on, kind, g, not_a, not_b)
+    let not_g = g.opposite();
+    let not_a = a.opposite();
+    let not_b = b.opposite();
+    let to = put_clause(out, at, kind, &[a, not_g]);
+    let on = put_clause(out, to, kind, &[b, not_g]);
+    put_clause(out, on, kind, &[g, not_a, not_b])
 }
 
 // The clauses of the gate on a line.

@@ -9,8 +9,9 @@ ghost use Rattle.built.specs.Edges.{edge_of, Small};
 ghost use Rattle.built.specs.Sections.{latch_line, start_line};
 ghost use Rattle.built.specs.Wrote.{Wrote};
 
-use crate::clause::{put_one_edge, put_two_edges};
-use crate::edge::{Edge, edge_at, opposite};
+use crate::clause::put_clause;
+use crate::edge::{Edge, edge_at};
+use crate::literal::Literal;
 use clause_count::start::start_at;
 use lines::line::next_line;
 use sections::circuit::Circuit;
@@ -25,11 +26,11 @@ fn put_start(text: &[u8], line: usize, i: usize, out: &mut [u8], at: usize) -> u
     let Some(start) = start_at(text, line) else {
         return at;
     };
-    let e = Edge {
+    let e = Edge::Named(Literal {
         negative: !start,
         variable: i + 1,
-    };
-    put_one_edge(out, at, 2, e)
+    });
+    put_clause(out, at, 2, &[e])
 }
 
 // The clauses of where all latches start, by line order.
@@ -51,21 +52,17 @@ pub fn put_starts(text: &[u8], c: Circuit, out: &mut [u8], at: usize) -> usize
 fn put_same(out: &mut [u8], at: usize, y: usize, x: Edge) -> usize
     requires le_y { 1 ≤ y }
     requires y_bound { y ≤ 32767 }
-    requires variable_bound { x.variable ≤ 32767 }
     requires x_in_bounds { at + length (clause_records 3 (next_clauses y (edge_of x))) ≤ length out.old }
     ensures { Wrote (clause_records 3 (next_clauses y (edge_of x))) at out.old result out.new }
 {
-    let not_x = opposite(x);
-    let off = Edge {
+    let off = Edge::Named(Literal {
         negative: true,
         variable: y,
-    };
-    let on = Edge {
-        negative: false,
-        variable: y,
-    };
-    let to = put_two_edges(out, at, 3, off, x);
-    put_two_edges(out, to, 3, on, not_x)
+    });
+    let on = off.opposite();
+    let not_x = x.opposite();
+    let to = put_clause(out, at, 3, &[off, x]);
+    put_clause(out, to, 3, &[on, not_x])
 }
 
 // The clauses of latch i, counted from 0, on a line.

@@ -16,6 +16,7 @@ pub mod clause;
 pub mod edge;
 pub mod gates;
 pub mod latches;
+pub mod literal;
 pub mod ones;
 
 use clause_count::bad::bad_lines;

@@ -10,7 +10,7 @@ ghost use Rattle.built.specs.Edges.{Small};
 ghost use Rattle.built.specs.Sections.{one_line};
 ghost use Rattle.built.specs.Wrote.{Wrote};
 
-use crate::clause::put_one_edge;
+use crate::clause::put_clause;
 use crate::edge::edge_at;
 use lines::line::next_line;
 use sections::circuit::Circuit;
@@ -25,7 +25,7 @@ fn put_one(text: &[u8], c: Circuit, line: usize, out: &mut [u8], at: usize, kind
     ensures { Wrote (clause_records kind (one_line (circuit_at text.now c) 0 (numbers_at text.now line))) at out.old result out.new }
 {
     let e = edge_at(text, c, line, 0);
-    put_one_edge(out, at, kind, e)
+    put_clause(out, at, kind, &[e])
 }
 
 // The clauses of the literals on the lines of a section, as records of a kind.

@@ -1,12 +1,14 @@
 // The jobs: any two texts, any budget, any length of lent bytes.
-ghost use Rattle.std.specs.Prelude.{◌≡◌, [], ◌++◌, ◌≤◌, length, drop};
+ghost use Rattle.std.specs.Prelude.{◌≡◌, [], length};
 ghost use Rattle.meaning.specs.Calls.{refusal};
 ghost use Rattle.meaning.specs.Circuits.{circuit_check_call, circuit_largest_call, circuit_one_call, circuit_list_call, circuit_problem_call};
 ghost use Rattle.problem.specs.Answers.{report_of};
+ghost use Rattle.circuits.specs.Refused.{number_of, place_of};
 ghost use Rattle.circuits.specs.Handed.{handed_over};
 ghost use Rattle.jobs.specs.Outcome.{outcome_of};
 
-use crate::reading::{Filed, file_of};
+use crate::reading::file_of;
+use crate::refusal::Refusal;
 use problem::Report;
 
 // As many bytes as the file of a circuit's problem may take.
@@ -17,12 +19,12 @@ fn room() -> [u8; 46220]
 }
 
 // A refusal returns its number and place.
-fn refused(number: u32, place: usize) -> Report
-    ensures { report_of result ≡ (refusal number place 0 0 []).report }
+fn refused(r: Refusal) -> Report
+    ensures { report_of result ≡ (refusal (number_of r) (place_of r) 0 0 []).report }
 {
     Report {
-        number,
-        place,
+        number: r.number(),
+        place: r.place(),
         decisions: 0,
         rows: 0,
         n: 0,
@@ -36,10 +38,9 @@ pub fn check(circuit: &[u8], lemmas: &[u8]) -> Report
     ensures { report_of result ≡ (circuit_check_call circuit.now lemmas.now 0 []).report }
 {
     let mut file = room();
-    let made = file_of(circuit, lemmas, &mut file);
-    match made {
-        Filed::Refused(number, place) => refused(number, place),
-        Filed::Written(len) => problem::check(&file[..len]),
+    match file_of(circuit, lemmas, &mut file) {
+        Ok(len) => problem::check(&file[..len]),
+        Err(r) => refused(r),
     }
 }
 
@@ -48,10 +49,9 @@ pub fn mark_largest(circuit: &[u8], lemmas: &[u8], budget: u32, marks: &mut [u8]
     ensures { outcome_of result marks.new ≡ circuit_largest_call circuit.now lemmas.now budget marks.old }
 {
     let mut file = room();
-    let made = file_of(circuit, lemmas, &mut file);
-    match made {
-        Filed::Refused(number, place) => refused(number, place),
-        Filed::Written(len) => jobs::mark_largest(&file[..len], budget, marks),
+    match file_of(circuit, lemmas, &mut file) {
+        Ok(len) => jobs::mark_largest(&file[..len], budget, marks),
+        Err(r) => refused(r),
     }
 }
 
@@ -60,10 +60,9 @@ pub fn mark_one(circuit: &[u8], lemmas: &[u8], budget: u32, marks: &mut [u8]) ->
     ensures { outcome_of result marks.new ≡ circuit_one_call circuit.now lemmas.now budget marks.old }
 {
     let mut file = room();
-    let made = file_of(circuit, lemmas, &mut file);
-    match made {
-        Filed::Refused(number, place) => refused(number, place),
-        Filed::Written(len) => jobs::mark_one(&file[..len], budget, marks),
+    match file_of(circuit, lemmas, &mut file) {
+        Ok(len) => jobs::mark_one(&file[..len], budget, marks),
+        Err(r) => refused(r),
     }
 }
 
@@ -72,22 +71,9 @@ pub fn list_all(circuit: &[u8], lemmas: &[u8], budget: u32, rows: &mut [u8]) -> 
     ensures { outcome_of result rows.new ≡ circuit_list_call circuit.now lemmas.now budget rows.old }
 {
     let mut file = room();
-    let made = file_of(circuit, lemmas, &mut file);
-    match made {
-        Filed::Refused(number, place) => refused(number, place),
-        Filed::Written(len) => jobs::list_all(&file[..len], budget, rows),
-    }
-}
-
-// Bytes into the first of those that are lent.
-fn copy(from: &[u8], to: &mut [u8])
-    requires { length from.now ≤ length to.old }
-    ensures { to.new ≡ from.now ++ drop (length from.now) to.old }
-{
-    let mut i: usize = 0;
-    while i < from.len() {
-        to[i] = from[i];
-        i += 1;
+    match file_of(circuit, lemmas, &mut file) {
+        Ok(len) => jobs::list_all(&file[..len], budget, rows),
+        Err(r) => refused(r),
     }
 }
 
@@ -96,10 +82,10 @@ fn hand_over(own: &[u8], file: &mut [u8]) -> Report
     ensures { outcome_of result file.new ≡ handed_over own.now file.old }
 {
     if file.len() < own.len() {
-        return refused(12, 0);
+        return refused(Refusal::Room);
     }
     let checked = problem::check(own);
-    copy(own, file);
+    file[..own.len()].copy_from_slice(own);
     Report {
         number: 0,
         place: 0,
@@ -116,9 +102,8 @@ pub fn problem(circuit: &[u8], lemmas: &[u8], file: &mut [u8]) -> Report
     ensures { outcome_of result file.new ≡ circuit_problem_call circuit.now lemmas.now 0 file.old }
 {
     let mut own = room();
-    let made = file_of(circuit, lemmas, &mut own);
-    match made {
-        Filed::Refused(number, place) => refused(number, place),
-        Filed::Written(len) => hand_over(&own[..len], file),
+    match file_of(circuit, lemmas, &mut own) {
+        Ok(len) => hand_over(&own[..len], file),
+        Err(r) => refused(r),
     }
 }

@@ -1,15 +1,17 @@
 -- `built::clause::put_edge` meets its contract: a constant writes nothing. Assumes nothing.
 use native.Mathlib.Omega.{arith}
-use Rattle.built.specs.Clause.{constant_bytes, named_size, wrote_literal}
+use Rattle.meaning.specs.Built.{literal_if}
+use Rattle.built.specs.Clause.{constant_bytes, named_room, wrote_literal}
 use Rattle.built.specs.Wrote.{wrote_none}
 use Rattle.built.proofs.clause.put_edge.Goals as goal
 
-pub returns-then-variable-eq0 : goal.returns-then-variable-eq0
-returns-then-variable-eq0 c = wrote_none _ _ _ (constant_bytes _ (omega arith))
+pub returns-in-Constant : goal.returns-in-Constant
+returns-in-Constant c = rw c.in-Constant.is (wrote_none _ _ _ (constant_bytes _))
 
 pub put_literal-requires-clause-at_in_bounds : goal.put_literal-requires-clause-at_in_bounds
 put_literal-requires-clause-at_in_bounds c =
-    omega (arith, named_size c.args.e (omega arith))
+    let room = rw c.in-Named.is at c.requires in
+    omega (arith, room, named_room (literal_if c.in-Named.l.negative c.in-Named.l.variable))
 
-pub returns : goal.returns
-returns c = wrote_literal _ _ (omega arith) _ _ c.put_literal.ensures
+pub returns-in-Named : goal.returns-in-Named
+returns-in-Named c = rw c.in-Named.is (wrote_literal _ _ _ _ c.put_literal.ensures)

@@ -6,4 +6,4 @@ pub returns-then-file-own : goal.returns-then-file-own
 returns-then-file-own c = handed_short _ _ _ c.if-file-own.true c.refused.ensures
 
 pub returns : goal.returns
-returns c = handed_fits _ _ _ _ _ c.if-file-own.false refl c.check-checked.ensures c.copy.ensures
+returns c = handed_fits _ _ _ _ _ c.if-file-own.false refl c.check-checked.ensures (rw c.copy_from_slice.ensures.after)

@@ -1,5 +1,5 @@
-use Rattle.circuits.specs.Reading.{found_fault, found_whole}
+use Rattle.circuits.specs.Reading.{found_fault}
 use Rattle.circuits.proofs.reading.read_texts.Goals as goal
 
-pub returns-in-Err : goal.returns-in-Err
-returns-in-Err c = found_fault _ _ _ c.in-Err.ensures
+pub returns-in_err-c : goal.returns-in_err-c
+returns-in_err-c c = ?
