@@ -16,12 +16,12 @@ use Rattle.meaning.specs.CircuitText
 use Rattle.meaning.specs.CircuitText.{aag, same_bytes, number_in, header_of, header_right, numbers_at}
 use Rattle.laws.specs.Basics.{bool_cases, and_left, and_right, and_both, not_true_is_false}
 use Rattle.lines.specs.declared.number.Number.{Number}
-use Rattle.lines.specs.Numbers.{worth, Stands}
+use Rattle.lines.specs.Numbers.{worth}
 use Rattle.lines.specs.Past.{line_past, line_byte, first_word}
 use Rattle.std.specs.declared.cmp.Ordering.{Ordering}
 use Rattle.std.specs.Ordering.{is_gt}
 use Rattle.lines.specs.Order.{order, order_cases, order_less, order_same, order_more}
-use Rattle.lines.specs.Literals.{nothing_stands, nothing_worth}
+use Rattle.lines.specs.Literals.{nothing_worth}
 use Rattle.sections.specs.Split.{numbers_count, numbers_all}
 use Rattle.sections.specs.LineOf.{past_none, past_some, get_d_past}
 use Rattle.circuit_text.specs.declared.header.Header.{Header}
@@ -36,18 +36,18 @@ unfoldable pub header_test : List ℕ → Bool
 header_test text = ended text 0 && header_right (line_at text 0)
 
 -- the numbers of a header where they stand, as the definition has them
-unfoldable pub header_at : List ℕ → Header → CircuitText.Header
-header_at text h =
+unfoldable pub header_at : Header → CircuitText.Header
+header_at h =
     record {
-      m = worth text h.m;
-      i = worth text h.i;
-      l = worth text h.l;
-      o = worth text h.o;
-      a = worth text h.a;
-      b = worth text h.b;
-      c = worth text h.c;
-      j = worth text h.j;
-      f = worth text h.f;
+      m = worth h.m;
+      i = worth h.i;
+      l = worth h.l;
+      o = worth h.o;
+      a = worth h.a;
+      b = worth h.b;
+      c = worth h.c;
+      j = worth h.j;
+      f = worth h.f;
       newer = h.newer;
     }
 
@@ -55,16 +55,7 @@ header_at text h =
 pub record Parts (text : List ℕ) (h : Header) : Type 0 where
   pub next_is : h.next ≡ next_line text 0
   pub next_in : h.next ≤ length text
-  pub m : Stands text h.m
-  pub i : Stands text h.i
-  pub l : Stands text h.l
-  pub o : Stands text h.o
-  pub a : Stands text h.a
-  pub b : Stands text h.b
-  pub c : Stands text h.c
-  pub j : Stands text h.j
-  pub f : Stands text h.f
-  pub worths : header_at text h ≡ header_of (line_at text 0)
+  pub worths : header_at h ≡ header_of (line_at text 0)
 
 -- a header that is right
 pub record HeaderRight (text : List ℕ) (h : Header) : Type 0 where
@@ -325,17 +316,15 @@ width_none text width past tried = go (bool_cases (leb 5 count)) (bool_cases (le
 
 -- x is number j after 'aag' and its space
 pub record NumberIs (text : List ℕ) (j : ℕ) (x : Number) : Type 0 where
-  pub stands : Stands text x
-  pub is : worth text x ≡ get_or (numbers_at text 4) j 0
+  pub is : worth x ≡ get_or (numbers_at text 4) j 0
 
-pub number_left_out : (text : List ℕ) (width j : ℕ) → 4 ≤ length text → of_numbers width (line_at text 4) ≡ true → width ≤ j
-    → NumberIs text j (record { start = 4; end = 4; value = 0 })
+pub number_left_out : (text : List ℕ) (width j : ℕ) → of_numbers width (line_at text 4) ≡ true → width ≤ j
+    → (x : Number) → x.digits.now ≡ [] → NumberIs text j x
 unfolding numbers_at
-number_left_out text width j four n past =
+number_left_out text width j n past x none =
     record {
-      stands = nothing_stands text 4 four;
       is =
-          nothing_worth text 4
+          nothing_worth x none
           ∙ sym
           (get_d_past (map decimal (words (line_at text 4))) j
           (omega (arith, numbers_count width (line_at text 4) n, length-map (words (line_at text 4)) decimal)));
@@ -376,7 +365,7 @@ module _ (text : List ℕ) (start : starts text ≡ true) where
           f = f;
         }
 
-    worths_are : header_at text made ≡ header_of (line_at text 0)
+    worths_are : header_at made ≡ header_of (line_at text 0)
     unfolding header_at header_of
     worths_are =
         let fm = em.is ∙ sym (number_is text start 0) in
@@ -402,20 +391,20 @@ module _ (text : List ℕ) (start : starts text ≡ true) where
         (numbers_all width (line_at text 4) is.numbers)
 
     -- the test is whether the sum is at most M
-    test_made : (q : Ordering) → q ≡ order (worth text i + worth text l + worth text a + 0) (worth text m) → header_test text ≡ not (is_gt q)
+    test_made : (q : Ordering) → q ≡ order (worth i + worth l + worth a + 0) (worth m) → header_test text ≡ not (is_gt q)
     unfolding header_at
     test_made q q_is =
         sym
-        (at_most (worth text i + worth text l + worth text a) (worth text m) q q_is
+        (at_most (worth i + worth l + worth a) (worth m) q q_is
         ∙ ap (λ (h : CircuitText.Header). leb (h.i + h.l + h.a) h.m) worths_are
         ∙ sym (test_is text start ∙ rw (is.closed, five_to_nine)))
 
-    pub header_over : (q : Ordering) → q ≡ order (worth text i + worth text l + worth text a + 0) (worth text m) → is_gt q ≡ true
+    pub header_over : (q : Ordering) → q ≡ order (worth i + worth l + worth a + 0) (worth m) → is_gt q ≡ true
         → header_test text ≡ false
     header_over q q_is over = test_made q q_is ∙ ap not over
 
     pub header_made : next ≡ next_line text 4 → next ≤ length text → (q : Ordering)
-        → q ≡ order (worth text i + worth text l + worth text a + 0) (worth text m) → is_gt q ≡ false → HeaderRight text made
+        → q ≡ order (worth i + worth l + worth a + 0) (worth m) → is_gt q ≡ false → HeaderRight text made
     header_made next_at inside q q_is within =
         record {
           right = test_made q q_is ∙ ap not within;
@@ -423,15 +412,6 @@ module _ (text : List ℕ) (start : starts text ≡ true) where
               record {
                 next_is = next_at ∙ sym (next_is text start);
                 next_in = inside;
-                m = em.stands;
-                i = ei.stands;
-                l = el.stands;
-                o = eo.stands;
-                a = ea.stands;
-                b = eb.stands;
-                c = ec.stands;
-                j = ej.stands;
-                f = ef.stands;
                 worths = worths_are;
               };
         }

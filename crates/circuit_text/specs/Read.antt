@@ -13,7 +13,7 @@ use Rattle.laws.specs.Basics.{not_true_is_false}
 use Rattle.circuit_laws.specs.Sane.{Once}
 use Rattle.circuit_laws.specs.ReadSane.{each_once, each_nonzero}
 use Rattle.circuit_laws.specs.Known.{in_gates, gate_variable, once_gates, input_no_gate, latch_no_gate, given_cases}
-use Rattle.lines.specs.Numbers.{worth}
+use Rattle.lines.specs.Numbers.{value_is, worth}
 use Rattle.sections.specs.declared.find.Lines.{Lines}
 use Rattle.sections.specs.declared.circuit.Circuit.{Circuit}
 use Rattle.sections.specs.declared.circuit.Properties.{Properties}
@@ -34,12 +34,12 @@ use Rattle.circuit_text.specs.Properties.{nothing, Counted, Read, PropertiesRead
 
 -- the lines of a circuit are read
 pub record Lined (text : List ℕ) (h : Header) (judged : Bool) (c : Circuit) : Type 0 where
-  pub is : after_header judged (header_at text h) text h.next ≡ used_of judged (sections_of text c)
+  pub is : after_header judged (header_at h) text h.next ≡ used_of judged (sections_of text c)
   pub whole : Whole text c
   pub distinct : judged ≡ true → Distinct (circuit_at text c)
 
 abbrev pub LinesRead : List ℕ → Header → Bool → Result Circuit Fault → Type 0
-LinesRead text h judged (Err e) = after_header judged (header_at text h) text h.next ≡ wrong e.at
+LinesRead text h judged (Err e) = after_header judged (header_at h) text h.next ≡ wrong e.at
 LinesRead text h judged (Ok c) = Lined text h judged c
 
 -- what the text is read as
@@ -68,33 +68,33 @@ sane_distinct c once nonzero =
 -- what reading the gates and the symbols comes to, after lines that are read
 pub record GatesLined (text : List ℕ) (h : Header) (judged : Bool) (inputs latches : Lines) (properties : Properties) (at : ℕ) (c : Circuit) : Type 0 where
   pub same : c ≡ record { inputs = inputs; latches = latches; properties = properties; gates = record { at = at; count = h.a.value } }
-  pub is : after_properties judged (header_at text h) text (lines_of text inputs) (lines_of text latches) (properties_of text properties) at
+  pub is : after_properties judged (header_at h) text (lines_of text inputs) (lines_of text latches) (properties_of text properties) at
       ≡ used_of judged (sections_of text c)
   pub rows : RowsAt text 3 (record { at = at; count = h.a.value })
   pub next : ℕ
-  pub gates : section gate_form judged (worth text h.m) text (worth text h.a)
+  pub gates : section gate_form judged (worth h.m) text (worth h.a)
       (defined_in (lines_of text inputs) ++ defined_in (lines_of text latches)) at
       ≡ lines (lines_of text (record { at = at; count = h.a.value })) next
 
 abbrev pub GatesRead : List ℕ → Header → Bool → Lines → Lines → Properties → ℕ → Result Circuit Fault → Type 0
 GatesRead text h judged inputs latches properties at (Err e) =
-    after_properties judged (header_at text h) text (lines_of text inputs) (lines_of text latches) (properties_of text properties) at ≡ wrong e.at
+    after_properties judged (header_at h) text (lines_of text inputs) (lines_of text latches) (properties_of text properties) at ≡ wrong e.at
 GatesRead text h judged inputs latches properties at (Ok c) = GatesLined text h judged inputs latches properties at c
 
 module _ (text : List ℕ) (h : Header) (p : Parts text h) (judged : Bool) (short : length text ≤ word_most) (inputs latches : Lines)
-    (properties : Properties) (at : ℕ) (inside : at ≤ length text) (counted : Counted text h) where
+    (properties : Properties) (at : ℕ) (inside : at ≤ length text) (counted : Counted h) where
   abbrev After : CircuitText.Text
   After =
-      after_properties judged (header_at text h) text (lines_of text inputs) (lines_of text latches) (properties_of text properties) at
+      after_properties judged (header_at h) text (lines_of text inputs) (lines_of text latches) (properties_of text properties) at
 
   abbrev Gates : Section
   Gates =
-      section (form_of (record { width = 3; defines = true; starts = false; counts = false })) judged (worth text h.m) text
-      (worth text h.a) (variables_of text inputs ++ variables_of text latches) at
+      section (form_of (record { width = 3; defines = true; starts = false; counts = false })) judged (worth h.m) text
+      (worth h.a) (variables_of text inputs ++ variables_of text latches) at
 
   abbrev GatesHere : Section
   GatesHere =
-      section gate_form judged (worth text h.m) text (worth text h.a)
+      section gate_form judged (worth h.m) text (worth h.a)
       (defined_in (lines_of text inputs) ++ defined_in (lines_of text latches)) at
 
   gates_here : ended_as Gates ≡ ended_as GatesHere
@@ -113,20 +113,20 @@ module _ (text : List ℕ) (h : Header) (p : Parts text h) (judged : Bool) (shor
     circuit = record { inputs = inputs; latches = latches; properties = properties; gates = gates }
 
     pub gates_stage : Stage text
-        (section gate_form judged (worth text h.m) text (worth text h.a)
+        (section gate_form judged (worth h.m) text (worth h.a)
         (defined_in (lines_of text inputs) ++ defined_in (lines_of text latches)) at)
-        3 at (worth text h.a) h.a.value r
+        3 at (worth h.a) h.a.value r
     unfolding gate_form
-    gates_stage = stage gate_form judged (worth text h.m) text _ at (worth text h.a) h.a.value r p.a.value inside (omega arith) short (e ∙ gates_here)
+    gates_stage = stage gate_form judged (worth h.m) text _ at (worth h.a) h.a.value r (value_is h.a) inside (omega arith) short (e ∙ gates_here)
 
     on_gates : After
-        ≡ after_gates judged (header_at text h) text (lines_of text inputs) (lines_of text latches) (properties_of text properties)
+        ≡ after_gates judged (header_at h) text (lines_of text inputs) (lines_of text latches) (properties_of text properties)
         (lines_of text gates) r
     unfolding header_at after_properties
     on_gates =
         stage_on _ _ _
         (λ ls next.
-        after_gates judged (header_at text h) text (lines_of text inputs) (lines_of text latches) (properties_of text properties) ls next)
+        after_gates judged (header_at h) text (lines_of text inputs) (lines_of text latches) (properties_of text properties) ls next)
         gates_stage.is
 
     abbrev counts : Counts
@@ -154,7 +154,7 @@ module _ (text : List ℕ) (h : Header) (p : Parts text h) (judged : Bool) (shor
           fairness = between.f.small;
         }
 
-    same_counts : CountsOf (header_at text h) counts
+    same_counts : CountsOf (header_at h) counts
     unfolding header_at
     same_counts =
         let between = counted.between in
@@ -171,8 +171,8 @@ module _ (text : List ℕ) (h : Header) (p : Parts text h) (judged : Bool) (shor
     abbrev Symbols : Option ℕ
     Symbols = symbols_fault (length text) judged (header_from counts) text [] r
 
-    symbols_here : fault_of Symbols ≡ fault_of (symbols_fault (length text) judged (header_at text h) text [] r)
-    symbols_here = ap fault_of (sym (fault_from (header_at text h) counts same_counts (length text) judged text [] r))
+    symbols_here : fault_of Symbols ≡ fault_of (symbols_fault (length text) judged (header_at h) text [] r)
+    symbols_here = ap fault_of (sym (fault_from (header_at h) counts same_counts (length text) judged text [] r))
 
     pub symbols_are_wrong : (t : Fault) → Err t ≡ fault_of Symbols → After ≡ wrong t.at
     unfolding after_gates
@@ -194,49 +194,49 @@ module _ (text : List ℕ) (h : Header) (p : Parts text h) (judged : Bool) (shor
 module _ (text : List ℕ) (h : Header) (p : Parts text h) (judged : Bool) (short : length text ≤ word_most) where
   abbrev Inputs : Section
   Inputs =
-      section (form_of (record { width = 1; defines = true; starts = false; counts = false })) judged (worth text h.m) text
-      (worth text h.i) (variables_of text nothing ++ variables_of text nothing) h.next
+      section (form_of (record { width = 1; defines = true; starts = false; counts = false })) judged (worth h.m) text
+      (worth h.i) (variables_of text nothing ++ variables_of text nothing) h.next
 
-  inputs_same : ended_as Inputs ≡ ended_as (section input_form judged (worth text h.m) text (worth text h.i) [] h.next)
+  inputs_same : ended_as Inputs ≡ ended_as (section input_form judged (worth h.m) text (worth h.i) [] h.next)
   unfolding form_of input_form variables_of first_lines defined_in
   inputs_same = refl
 
-  pub inputs_wrong : (x : Fault) → Err x ≡ ended_as Inputs → after_header judged (header_at text h) text h.next ≡ wrong x.at
+  pub inputs_wrong : (x : Fault) → Err x ≡ ended_as Inputs → after_header judged (header_at h) text h.next ≡ wrong x.at
   unfolding header_at
-  inputs_wrong x e = after_header_is judged (header_at text h) text h.next ∙ stage_wrong _ _ x (e ∙ inputs_same)
+  inputs_wrong x e = after_header_is judged (header_at h) text h.next ∙ stage_wrong _ _ x (e ∙ inputs_same)
 
   module _ (r₁ : ℕ) (e₁ : Ok r₁ ≡ ended_as Inputs) where
     abbrev inputs_here : Lines
     inputs_here = record { at = h.next; count = h.i.value }
 
-    pub inputs_stage : Stage text (section input_form judged (worth text h.m) text (worth text h.i) [] h.next) 1 h.next
-        (worth text h.i) h.i.value r₁
+    pub inputs_stage : Stage text (section input_form judged (worth h.m) text (worth h.i) [] h.next) 1 h.next
+        (worth h.i) h.i.value r₁
     unfolding input_form
     inputs_stage =
-        stage input_form judged (worth text h.m) text [] h.next (worth text h.i) h.i.value r₁ p.i.value p.next_in (omega arith) short (e₁ ∙ inputs_same)
+        stage input_form judged (worth h.m) text [] h.next (worth h.i) h.i.value r₁ (value_is h.i) p.next_in (omega arith) short (e₁ ∙ inputs_same)
 
-    on₁ : after_header judged (header_at text h) text h.next ≡ after_inputs judged (header_at text h) text (lines_of text inputs_here) r₁
+    on₁ : after_header judged (header_at h) text h.next ≡ after_inputs judged (header_at h) text (lines_of text inputs_here) r₁
     unfolding header_at
     on₁ =
-        after_header_is judged (header_at text h) text h.next
-        ∙ stage_on _ _ _ (λ ls at. after_inputs judged (header_at text h) text ls at) inputs_stage.is
+        after_header_is judged (header_at h) text h.next
+        ∙ stage_on _ _ _ (λ ls at. after_inputs judged (header_at h) text ls at) inputs_stage.is
 
     abbrev Latches : Section
     Latches =
-        section (form_of (record { width = 2; defines = true; starts = h.newer; counts = false })) judged (worth text h.m) text
-        (worth text h.l) (variables_of text inputs_here ++ variables_of text nothing) r₁
+        section (form_of (record { width = 2; defines = true; starts = h.newer; counts = false })) judged (worth h.m) text
+        (worth h.l) (variables_of text inputs_here ++ variables_of text nothing) r₁
 
     before₂ : variables_of text inputs_here ++ variables_of text nothing ≡ defined_in (lines_of text inputs_here)
     unfolding variables_of first_lines defined_in lines_of
     before₂ = append-nil _
 
     latches_same : ended_as Latches
-        ≡ ended_as (section (latch_form h.newer) judged (worth text h.m) text (worth text h.l) (defined_in (lines_of text inputs_here)) r₁)
+        ≡ ended_as (section (latch_form h.newer) judged (worth h.m) text (worth h.l) (defined_in (lines_of text inputs_here)) r₁)
     unfolding form_of latch_form
     latches_same =
-        ap (λ (b : List ℕ). ended_as (section (latch_form h.newer) judged (worth text h.m) text (worth text h.l) b r₁)) before₂
+        ap (λ (b : List ℕ). ended_as (section (latch_form h.newer) judged (worth h.m) text (worth h.l) b r₁)) before₂
 
-    pub latches_wrong : (x : Fault) → Err x ≡ ended_as Latches → after_header judged (header_at text h) text h.next ≡ wrong x.at
+    pub latches_wrong : (x : Fault) → Err x ≡ ended_as Latches → after_header judged (header_at h) text h.next ≡ wrong x.at
     unfolding header_at after_inputs
     latches_wrong x e = on₁ ∙ stage_wrong _ _ x (e ∙ latches_same)
 
@@ -245,28 +245,28 @@ module _ (text : List ℕ) (h : Header) (p : Parts text h) (judged : Bool) (shor
       latches_here = record { at = r₁; count = h.l.value }
 
       pub latches_stage : Stage text
-          (section (latch_form h.newer) judged (worth text h.m) text (worth text h.l) (defined_in (lines_of text inputs_here)) r₁)
-          2 r₁ (worth text h.l) h.l.value r₂
+          (section (latch_form h.newer) judged (worth h.m) text (worth h.l) (defined_in (lines_of text inputs_here)) r₁)
+          2 r₁ (worth h.l) h.l.value r₂
       unfolding latch_form
       latches_stage =
-          stage (latch_form h.newer) judged (worth text h.m) text _ r₁ (worth text h.l) h.l.value r₂ p.l.value inputs_stage.inside (omega arith) short (e₂ ∙ latches_same)
+          stage (latch_form h.newer) judged (worth h.m) text _ r₁ (worth h.l) h.l.value r₂ (value_is h.l) inputs_stage.inside (omega arith) short (e₂ ∙ latches_same)
 
-      on₂ : after_header judged (header_at text h) text h.next
-          ≡ after_latches judged (header_at text h) text (lines_of text inputs_here) (lines_of text latches_here) r₂
+      on₂ : after_header judged (header_at h) text h.next
+          ≡ after_latches judged (header_at h) text (lines_of text inputs_here) (lines_of text latches_here) r₂
       unfolding header_at after_inputs
       on₂ =
           on₁
-          ∙ stage_on _ _ _ (λ ls at. after_latches judged (header_at text h) text (lines_of text inputs_here) ls at) latches_stage.is
+          ∙ stage_on _ _ _ (λ ls at. after_latches judged (header_at h) text (lines_of text inputs_here) ls at) latches_stage.is
 
-      pub between_wrong : (x : Fault) → PropertiesRead text h judged r₂ (Err x) → after_header judged (header_at text h) text h.next ≡ wrong x.at
+      pub between_wrong : (x : Fault) → PropertiesRead text h judged r₂ (Err x) → after_header judged (header_at h) text h.next ≡ wrong x.at
       unfolding after_latches
       between_wrong x read =
           on₂
           ∙ read
-          (λ properties at. after_properties judged (header_at text h) text (lines_of text inputs_here) (lines_of text latches_here) properties at)
+          (λ properties at. after_properties judged (header_at h) text (lines_of text inputs_here) (lines_of text latches_here) properties at)
 
       module _ (properties : Properties) (next : ℕ) (between_read : Read text h judged r₂ properties next) where
-        pub counted_all : Counted text h
+        pub counted_all : Counted h
         counted_all =
             record {
               i = record { is = inputs_stage.value; small = inputs_stage.small };
@@ -274,13 +274,13 @@ module _ (text : List ℕ) (h : Header) (p : Parts text h) (judged : Bool) (shor
               between = between_read.counted;
             }
 
-        on₃ : after_header judged (header_at text h) text h.next
-            ≡ after_properties judged (header_at text h) text (lines_of text inputs_here) (lines_of text latches_here) (properties_of text properties) next
+        on₃ : after_header judged (header_at h) text h.next
+            ≡ after_properties judged (header_at h) text (lines_of text inputs_here) (lines_of text latches_here) (properties_of text properties) next
         unfolding after_latches
         on₃ =
             on₂
             ∙ between_read.is
-            (λ ps at. after_properties judged (header_at text h) text (lines_of text inputs_here) (lines_of text latches_here) ps at)
+            (λ ps at. after_properties judged (header_at h) text (lines_of text inputs_here) (lines_of text latches_here) ps at)
 
         pub lines_read : (found : Result Circuit Fault) → GatesRead text h judged inputs_here latches_here properties next found → LinesRead text h judged found
         unfolding header_at sections_of circuit_at
@@ -312,42 +312,42 @@ module _ (text : List ℕ) (h : Header) (p : Parts text h) (judged : Bool) (shor
             s = sections_of text whole_circuit
 
             inputs_true : judged ≡ true
-                → section input_form true (worth text h.m) text (worth text h.i) [] h.next ≡ lines (lines_of text inputs_here) r₁
+                → section input_form true (worth h.m) text (worth h.i) [] h.next ≡ lines (lines_of text inputs_here) r₁
             inputs_true j =
                 subst
                 (λ (b : Bool).
-                section input_form b (worth text h.m) text (worth text h.i) [] h.next ≡ lines (lines_of text inputs_here) r₁)
+                section input_form b (worth h.m) text (worth h.i) [] h.next ≡ lines (lines_of text inputs_here) r₁)
                 j inputs_stage.is
 
             latches_true : judged ≡ true
-                → section (latch_form h.newer) true (worth text h.m) text (worth text h.l) (defined_in (lines_of text inputs_here)) r₁
+                → section (latch_form h.newer) true (worth h.m) text (worth h.l) (defined_in (lines_of text inputs_here)) r₁
                 ≡ lines (lines_of text latches_here) r₂
             latches_true j =
                 subst
                 (λ (b : Bool).
-                section (latch_form h.newer) b (worth text h.m) text (worth text h.l) (defined_in (lines_of text inputs_here)) r₁
+                section (latch_form h.newer) b (worth h.m) text (worth h.l) (defined_in (lines_of text inputs_here)) r₁
                 ≡ lines (lines_of text latches_here) r₂)
                 j latches_stage.is
 
             gates_true : judged ≡ true
-                → section gate_form true (worth text h.m) text (worth text h.a)
+                → section gate_form true (worth h.m) text (worth h.a)
                 (defined_in (lines_of text inputs_here) ++ defined_in (lines_of text latches_here)) next
                 ≡ lines (lines_of text whole_circuit.gates) g.next
             gates_true j =
                 subst
                 (λ (b : Bool).
-                section gate_form b (worth text h.m) text (worth text h.a)
+                section gate_form b (worth h.m) text (worth h.a)
                 (defined_in (lines_of text inputs_here) ++ defined_in (lines_of text latches_here)) next
                 ≡ lines (lines_of text whole_circuit.gates) g.next)
                 j g.gates
 
             once : judged ≡ true → Once (variables (circuit_of s))
             once j =
-                each_once (header_at text h) text s h.next r₁ r₂ next g.next (inputs_true j) (latches_true j) (gates_true j)
+                each_once (header_at h) text s h.next r₁ r₂ next g.next (inputs_true j) (latches_true j) (gates_true j)
 
             nonzero : judged ≡ true → (u : ℕ) → In u (variables (circuit_of s)) → u ≡ 0 → ⊥
             nonzero j =
-                each_nonzero (header_at text h) text s h.next r₁ r₂ next g.next (inputs_true j) (latches_true j) (gates_true j)
+                each_nonzero (header_at h) text s h.next r₁ r₂ next g.next (inputs_true j) (latches_true j) (gates_true j)
 
             distinct_of : judged ≡ true → Distinct (circuit_at text whole_circuit)
             distinct_of j = sane_distinct (circuit_of s) (once j) (nonzero j)

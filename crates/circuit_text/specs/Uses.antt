@@ -41,14 +41,14 @@ header_is_wrong text e =
     ap (λ (b : Bool). if_header b (after_header (is_judged text) (header_of (line_at text 0)) text (next_line text 0))) e
 
 module _ (text : List ℕ) (h : Header) (is : HeaderRight text h) (judged : Bool) (j : judged ≡ leb (length text) 65536) where
-  pub header_is_right : read_circuit_text text ≡ after_header judged (header_at text h) text h.next
+  pub header_is_right : read_circuit_text text ≡ after_header judged (header_at h) text h.next
   unfolding read_circuit_text if_header header_test is_judged header_at
   header_is_right =
       let p = is.parts in
       ap (λ (b : Bool). if_header b (after_header (is_judged text) (header_of (line_at text 0)) text (next_line text 0))) is.right
       ∙ ap (λ (b : Bool). after_header b (header_of (line_at text 0)) text (next_line text 0)) (sym j)
       ∙ ap (λ (x : CircuitText.Header). after_header judged x text (next_line text 0)) (sym p.worths)
-      ∙ ap (after_header judged (header_at text h) text) (sym p.next_is)
+      ∙ ap (after_header judged (header_at h) text) (sym p.next_is)
 
   -- ---- the answer, by how the lines were read
 

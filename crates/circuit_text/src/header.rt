@@ -5,23 +5,23 @@ ghost use Rattle.circuit_text.specs.Header.{starts, HeaderIs, WidthIs, NumberIs}
 
 use lines::compare::compare;
 use lines::line::{line_past, next_line};
-use lines::number::Number;
+use lines::number::{Number, no_number};
 use sections::nth::nth;
 
 // A right header: where the next line starts, whether it is of edition 1.9, and its numbers: 0 for each that is left out.
 #[derive(Clone, Copy)]
-pub struct Header {
+pub struct Header<'a> {
     pub next: usize,
     pub newer: bool,
-    pub m: Number,
-    pub i: Number,
-    pub l: Number,
-    pub o: Number,
-    pub a: Number,
-    pub b: Number,
-    pub c: Number,
-    pub j: Number,
-    pub f: Number,
+    pub m: Number<'a>,
+    pub i: Number<'a>,
+    pub l: Number<'a>,
+    pub o: Number<'a>,
+    pub a: Number<'a>,
+    pub b: Number<'a>,
+    pub c: Number<'a>,
+    pub j: Number<'a>,
+    pub f: Number<'a>,
 }
 
 // The text starts with 'aag' and a space.
@@ -57,7 +57,7 @@ pub fn width_of(text: &[u8]) -> Option<usize>
 }
 
 // Number j of so many that follow 'aag' and its space; one that is left out is 0.
-fn number_of(text: &[u8], width: usize, j: usize) -> Number
+fn number_of(text: &[u8], width: usize, j: usize) -> Number<'_>
     requires in_bounds { 4 ≤ length text.now }
     requires text_value { ended text.now 4 ≡ true }
     requires text_value_2 { of_numbers width (line_at text.now 4) ≡ true }
@@ -66,15 +66,11 @@ fn number_of(text: &[u8], width: usize, j: usize) -> Number
     if j < width {
         return nth(text, 4, j);
     }
-    Number {
-        start: 4,
-        end: 4,
-        value: 0,
-    }
+    no_number()
 }
 
 // 'aag' and five to nine numbers, with I + L + A at most M.
-pub fn read_header(text: &[u8]) -> Option<Header>
+pub fn read_header(text: &[u8]) -> Option<Header<'_>>
     ensures { HeaderIs text.now result }
 {
     if !starts(text) {
@@ -90,7 +86,7 @@ pub fn read_header(text: &[u8]) -> Option<Header>
     let c = number_of(text, width, 6);
     let j = number_of(text, width, 7);
     let f = number_of(text, width, 8);
-    if compare(text, i, l, a, 0, m).is_gt() {
+    if compare(&i, &l, &a, 0, &m).is_gt() {
         return None;
     }
     Some(Header {

@@ -1,7 +1,7 @@
 // The lines between latches and gates: outputs, bad literals, constraints, the counts of the justice properties, their literals, fairness.
 ghost use Rattle.std.specs.Prelude.{◌≡◌, [], ℕ, ◌+◌, ◌≤◌, length};
 ghost use Rattle.meaning.specs.CircuitText.{section, total};
-ghost use Rattle.lines.specs.Numbers.{Stands, worth, huge, capped};
+ghost use Rattle.lines.specs.Numbers.{worth, huge, capped};
 ghost use Rattle.sections.specs.Rows.{form_of};
 ghost use Rattle.sections.specs.Reading.{ended_as};
 ghost use Rattle.sections.specs.Whole.{RowsAt, lines_of};
@@ -22,7 +22,7 @@ use sections::read::read_section;
 fn plain_lines(
     text: &[u8],
     form: Form,
-    m: Number,
+    m: &Number,
     judged: bool,
     at: usize,
     count: usize,
@@ -30,9 +30,8 @@ fn plain_lines(
     requires at_in_bounds { at ≤ length text.now }
     requires le_width { 1 ≤ form.width }
     requires width_bound { form.width ≤ 3 }
-    requires stands { Stands text.now m }
     requires count_le_huge { count ≤ huge }
-    ensures { (n : ℕ) → count ≡ capped n → result ≡ ended_as (section (form_of form) judged (worth text.now m) text.now n [] at) }
+    ensures { (n : ℕ) → count ≡ capped n → result ≡ ended_as (section (form_of form) judged (worth m.now) text.now n [] at) }
 {
     let none = Lines { at: 0, count: 0 };
     read_section(text, at, count, form, judged, m, none, none)
@@ -68,26 +67,26 @@ fn total(text: &[u8], counts: Lines) -> usize
 // From the line after the latches on: where they stand and where the next line starts, or the first line at fault.
 pub fn read_properties(
     text: &[u8],
-    h: Header,
+    h: &Header,
     judged: bool,
     at: usize,
 ) -> Result<(Properties, usize), Fault>
-    requires parts { Parts text.now h }
+    requires parts { Parts text.now h.now }
     requires text_len_bound { length text.now ≤ word_most }
     requires at_in_bounds { at ≤ length text.now }
-    ensures { PropertiesRead text.now h judged at result }
+    ensures { PropertiesRead text.now h.now judged at result }
 {
-    let first = plain_lines(text, Form::USED, h.m, judged, at, h.o.value)?;
-    let second = plain_lines(text, Form::USED, h.m, judged, first, h.b.value)?;
-    let third = plain_lines(text, Form::USED, h.m, judged, second, h.c.value)?;
-    let fourth = plain_lines(text, Form::COUNT, h.m, judged, third, h.j.value)?;
+    let first = plain_lines(text, Form::USED, &h.m, judged, at, h.o.value)?;
+    let second = plain_lines(text, Form::USED, &h.m, judged, first, h.b.value)?;
+    let third = plain_lines(text, Form::USED, &h.m, judged, second, h.c.value)?;
+    let fourth = plain_lines(text, Form::COUNT, &h.m, judged, third, h.j.value)?;
     let counts = Lines {
         at: third,
         count: h.j.value,
     };
     let literals = total(text, counts);
-    let fifth = plain_lines(text, Form::USED, h.m, judged, fourth, literals)?;
-    let sixth = plain_lines(text, Form::USED, h.m, judged, fifth, h.f.value)?;
+    let fifth = plain_lines(text, Form::USED, &h.m, judged, fourth, literals)?;
+    let sixth = plain_lines(text, Form::USED, &h.m, judged, fifth, h.f.value)?;
     let properties = Properties {
         outputs: Lines {
             at,

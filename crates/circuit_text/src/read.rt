@@ -21,20 +21,20 @@ use uses::stuck::uses_fault;
 // The gates and the symbols, after the lines that are read.
 fn read_gates(
     text: &[u8],
-    h: Header,
+    h: &Header,
     judged: bool,
     inputs: Lines,
     latches: Lines,
     properties: Properties,
     at: usize,
 ) -> Result<Circuit, Fault>
-    requires parts { Parts text.now h }
+    requires parts { Parts text.now h.now }
     requires text_len_bound { length text.now ≤ word_most }
     requires at_in_bounds { at ≤ length text.now }
     requires placed { Placed text.now inputs }
     requires placed_2 { Placed text.now latches }
-    requires counted { Counted text.now h }
-    ensures { GatesRead text.now h judged inputs latches properties at result }
+    requires counted { Counted h.now }
+    ensures { GatesRead text.now h.now judged inputs latches properties at result }
 {
     let last = read_section(
         text,
@@ -42,7 +42,7 @@ fn read_gates(
         h.a.value,
         Form::GATE,
         judged,
-        h.m,
+        &h.m,
         inputs,
         latches,
     )?;
@@ -68,10 +68,10 @@ fn read_gates(
 }
 
 // The lines after the header.
-fn read_lines(text: &[u8], h: Header, judged: bool) -> Result<Circuit, Fault>
-    requires parts { Parts text.now h }
+fn read_lines(text: &[u8], h: &Header, judged: bool) -> Result<Circuit, Fault>
+    requires parts { Parts text.now h.now }
     requires text_len_bound { length text.now ≤ word_most }
-    ensures { LinesRead text.now h judged result }
+    ensures { LinesRead text.now h.now judged result }
 {
     let none = Lines { at: 0, count: 0 };
     let first = read_section(
@@ -80,7 +80,7 @@ fn read_lines(text: &[u8], h: Header, judged: bool) -> Result<Circuit, Fault>
         h.i.value,
         Form::INPUT,
         judged,
-        h.m,
+        &h.m,
         none,
         none,
     )?;
@@ -92,7 +92,7 @@ fn read_lines(text: &[u8], h: Header, judged: bool) -> Result<Circuit, Fault>
         starts: h.newer,
         ..Form::LATCH
     };
-    let second = read_section(text, first, h.l.value, form, judged, h.m, inputs, none)?;
+    let second = read_section(text, first, h.l.value, form, judged, &h.m, inputs, none)?;
     let latches = Lines {
         at: first,
         count: h.l.value,
@@ -122,7 +122,7 @@ pub fn read_circuit(text: &[u8]) -> Result<Circuit, Fault>
         return Err(Fault { at: 0 });
     };
     let judged = text.len() <= 65536;
-    let c = read_lines(text, h, judged)?;
+    let c = read_lines(text, &h, judged)?;
     read_uses(text, c, judged)?;
     Ok(c)
 }

@@ -1,3 +1,4 @@
+use Rattle.lines.specs.Numbers.{value_is}
 use mathlib.Core.Path.{refl, sym}
 use native.Mathlib.Omega.{arith}
 use Rattle.sections.specs.Lists.{first_number_is}
@@ -14,14 +15,14 @@ sum-all-requires-clause-a_le_huge c =
 
 pub sum-all-requires-clause-b_le_huge : goal.sum-all-requires-clause-b_le_huge
 sum-all-requires-clause-b_le_huge c =
-    at_most_huge _ _ c.number_at-x.ensures.0.value
+    at_most_huge _ _ (value_is c.number_at-x.result)
 
 pub loop-preserved : goal.loop-preserved
 loop-preserved c =
     let h = c.loop.invariant in
     let y = c.number_at-x.ensures in
     let row = passing_row _ _ _ _ _ h.1 (omega arith) in (
-      counted_more _ _ _ _ _ _ _ _ h.1.place (sym (first_number_is _ _ _ y.0 y.1 y.2 row.numbers)) y.0.value h.0 c.sum-all.ensures,
+      counted_more _ _ _ _ _ _ _ _ h.1.place (sym (first_number_is _ _ c.number_at-x.result y.digits row.numbers)) (value_is c.number_at-x.result) h.0 c.sum-all.ensures,
       passing_next _ _ _ _ _ h.1 (omega arith) refl _ c.next_line-p.ensures.0,
     )
 
