@@ -1,4 +1,4 @@
-use Rattle.circuits.specs.Reading.{found_fault, found_whole}
+use Rattle.circuits.specs.Reading.{found_fault}
 use Rattle.circuits.proofs.reading.read_texts.Goals as goal
 
 pub returns-in-Err : goal.returns-in-Err
