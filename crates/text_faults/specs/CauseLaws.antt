@@ -1,6 +1,6 @@
 -- Laws by which causes are found: a line of so many numbers, and the counts of a header.
-use Rattle.std.specs.Prelude.{ℕ, ◌+◌, ◌≤◌, ◌<◌, ◌≡◌, Bool, true, false, not, ◌&&◌, cond, List, length, eqb, refl, Option, Some, None, is_some}
-use Rattle.std.proofs.Common.{ap, ◌∙◌, arith, eq-eqb, ne_eqb, ltb-true, le-leb}
+use Rattle.std.specs.Prelude.{ℕ, ◌+◌, ◌≤◌, ◌<◌, ◌≡◌, Bool, true, false, ◌&&◌, cond, List, length, refl, Option, Some, None, is_some}
+use Rattle.std.proofs.Common.{ap, ◌∙◌, arith, ltb-true, le-leb}
 use Rattle.meaning.specs.File.{between}
 use Rattle.meaning.specs.Lines.{line_at, ended, next_line, words, of_numbers}
 use Rattle.meaning.specs.CircuitText.{Header}

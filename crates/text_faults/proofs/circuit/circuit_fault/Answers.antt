@@ -1,6 +1,4 @@
 -- `text_faults::circuit::circuit_fault` reads the header, and goes on by the line's number. Assumes nothing.
-use borrow.Author.Tests.{not-true, not-false}
-use mathlib.Core.Path.{sym, ◌∙◌}
 use Rattle.circuit_text.specs.Header.{header_at}
 use Rattle.text_faults.specs.Circuits.{circuit_fault}
 use Rattle.text_faults.specs.CauseLaws.{fault_is}

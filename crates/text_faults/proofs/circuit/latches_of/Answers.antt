@@ -1,6 +1,5 @@
 -- `text_faults::circuit::latches_of` reads the header. Assumes nothing.
-use borrow.Author.Tests.{not-true, not-false}
-use mathlib.Core.Path.{sym, ap, ◌∙◌}
+use mathlib.Core.Path.{ap, ◌∙◌}
 use native.Mathlib.Omega.{arith}
 use Rattle.meaning.specs.CircuitText.{Header}
 use Rattle.circuit_text.specs.Header.{header_at}

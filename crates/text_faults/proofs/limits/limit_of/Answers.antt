@@ -1,6 +1,6 @@
 -- `text_faults::limits::limit_of` makes the definition's tests. Assumes nothing.
-use mathlib.Core.Path.{sym, ap, ◌∙◌}
-use borrow.Author.Tests.{lt-ltb, le-ltb, not-true, not-false}
+use mathlib.Core.Path.{ap, ◌∙◌}
+use borrow.Author.Tests.{lt-ltb, le-ltb}
 use lib.ListN.{length}
 use Rattle.meaning.specs.CircuitText.{Header}
 use Rattle.circuit_text.specs.Header.{header_at}

@@ -1,6 +1,4 @@
 -- `text_faults::liveness::liveness_of` reads the header. Assumes nothing.
-use borrow.Author.Tests.{not-true, not-false}
-use mathlib.Core.Path.{sym, ◌∙◌}
 use Rattle.circuit_text.specs.Header.{header_at}
 use Rattle.text_faults.specs.Liveness.{liveness_of, live_is}
 use Rattle.text_faults.proofs.liveness.liveness_of.Goals as goal
