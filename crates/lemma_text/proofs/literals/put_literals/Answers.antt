@@ -9,50 +9,30 @@ bounds-text-x c = byte_after _ _ _ c.digits_at-x.ensures c.loop-x.invariant.0
 
 pub returns-then-text-x-eq10 : goal.returns-then-text-x-eq10
 returns-then-text-x-eq10 c =
-    let word = c in
-    let turn = word.loop-x.invariant in
-    left_none _ _ _ _ _ _ (bytes_last _ _ _ word.digits_at-x.ensures turn.0 c.if-text-x-eq10.true) turn.2
+    let turn = c.loop-x.invariant in
+    left_none _ _ _ _ _ _ (bytes_last _ _ _ c.digits_at-x.ensures turn.0 c.if-text-x-eq10.true) turn.2
 
 pub put_literal-requires-clause-at_in_bounds : goal.put_literal-requires-clause-at_in_bounds
 put_literal-requires-clause-at_in_bounds c =
-    let left = c in
-    let word = left in
-    let turn = word.loop-x.invariant in
-    let here = literal_at _ _ _ word.digits_at-x.ensures turn.0 left.if-text-x-eq10.false in
-    let room = word.requires.from_in_bounds_2 in
-    literal_room _ _ _ room _ _ _ here.bytes _ _ turn.2
+    let turn = c.loop-x.invariant in
+    let here = literal_at _ _ _ c.digits_at-x.ensures turn.0 c.if-text-x-eq10.false in
+    literal_room _ _ _ c.requires.from_in_bounds_2 _ _ _ here.bytes _ _ turn.2
 
 pub put_literal-requires-clause-le_variable : goal.put_literal-requires-clause-le_variable
-put_literal-requires-clause-le_variable c =
-    let left = c in
-    let word = left in
-    let turn = word.loop-x.invariant in
-    let here = literal_at _ _ _ word.digits_at-x.ensures turn.0 left.if-text-x-eq10.false in
-    let room = word.requires.from_in_bounds_2 in
-    here.low
+put_literal-requires-clause-le_variable c = (literal_at _ _ _ c.digits_at-x.ensures c.loop-x.invariant.0 c.if-text-x-eq10.false).low
 
 pub put_literal-requires-clause-variable_bound : goal.put_literal-requires-clause-variable_bound
-put_literal-requires-clause-variable_bound c =
-    let left = c in
-    let word = left in
-    let turn = word.loop-x.invariant in
-    let here = literal_at _ _ _ word.digits_at-x.ensures turn.0 left.if-text-x-eq10.false in
-    let room = word.requires.from_in_bounds_2 in
-    here.high
+put_literal-requires-clause-variable_bound c = (literal_at _ _ _ c.digits_at-x.ensures c.loop-x.invariant.0 c.if-text-x-eq10.false).high
 
 pub loop-x-smaller : goal.loop-x-smaller
 loop-x-smaller c =
-    let word = c in
-    let w = word.digits_at-x.ensures in
-    omega (arith, byte_after _ _ _ w word.loop-x.invariant.0, word_rises _ _ _ w)
+    let w = c.digits_at-x.ensures in
+    omega (arith, byte_after _ _ _ w c.loop-x.invariant.0, word_rises _ _ _ w)
 
 pub loop-x-preserved : goal.loop-x-preserved
 loop-x-preserved c =
-    let left = c in
-    let word = left in
-    let turn = word.loop-x.invariant in
-    let here = literal_at _ _ _ word.digits_at-x.ensures turn.0 left.if-text-x-eq10.false in
-    let room = word.requires.from_in_bounds_2 in
-    let inside = byte_after _ _ _ word.digits_at-x.ensures turn.0 in
-    let more = literal_more _ _ _ room _ _ _ here.bytes _ _ turn.2 in
+    let turn = c.loop-x.invariant in
+    let here = literal_at _ _ _ c.digits_at-x.ensures turn.0 c.if-text-x-eq10.false in
+    let inside = byte_after _ _ _ c.digits_at-x.ensures turn.0 in
+    let more = literal_more _ _ _ c.requires.from_in_bounds_2 _ _ _ here.bytes _ _ turn.2 in
     (here.next, omega (arith, inside), subst⁻¹ (Left _ _ _ _ _) c.put_literal.ensures more)
