@@ -5,8 +5,7 @@ use Rattle.built.proofs.put_end.Goals as goal
 
 pub put_head-requires-clause-at_in_bounds : goal.put_head-requires-clause-at_in_bounds
 put_head-requires-clause-at_in_bounds c =
-    let start = c in
-    omega (arith, start.requires, end_length)
+    omega (arith, c.requires, end_length)
 
 pub returns : goal.returns
 returns c = end_written _ _ _ c.put_head.ensures

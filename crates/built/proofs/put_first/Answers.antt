@@ -5,23 +5,17 @@ use Rattle.built.proofs.put_first.Goals as goal
 
 pub put_head-requires-clause-at_in_bounds : goal.put_head-requires-clause-at_in_bounds
 put_head-requires-clause-at_in_bounds c =
-    let start = c in
-    omega (arith, start.requires.m_in_bounds, first_length start.args.n start.args.m)
+    omega (arith, c.requires.m_in_bounds, first_length c.args.n c.args.m)
 
 pub put_two-requires-clause-at_in_bounds : goal.put_two-requires-clause-at_in_bounds
 put_two-requires-clause-at_in_bounds c =
-    let start = c in
-    omega (arith, start.requires.m_in_bounds, first_length start.args.n start.args.m)
+    omega (arith, c.requires.m_in_bounds, first_length c.args.n c.args.m)
 
 pub put_two-requires-2-clause-at_in_bounds : goal.put_two-requires-2-clause-at_in_bounds
 put_two-requires-2-clause-at_in_bounds c =
-    let start = c in
-    omega (arith, start.requires.m_in_bounds, first_length start.args.n start.args.m)
+    omega (arith, c.requires.m_in_bounds, first_length c.args.n c.args.m)
 
 pub returns : goal.returns
 returns c =
-    let after_put_two = c in
-    let after_put_head = after_put_two in
-    let start = after_put_head in
-    first_written _ _ _ _ _ _ _ start.requires.m_in_bounds after_put_head.put_head.ensures after_put_two.put_two.ensures
+    first_written _ _ _ _ _ _ _ c.requires.m_in_bounds c.put_head.ensures c.put_two.ensures
     c.put_two-2.ensures

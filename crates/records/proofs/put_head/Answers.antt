@@ -9,7 +9,6 @@ use Rattle.records.proofs.put_head.Goals as goal
 pub returns : goal.returns
 unfolding two
 returns c =
-    let start = c in
     c.put_two-2.ensures
-    ∙ ap (put (start.args.at + 2) (two start.args.kind)) c.put_two.ensures
-    ∙ put_put start.args.at (two start.args.len) (two start.args.kind) _ (omega arith)
+    ∙ ap (put (c.args.at + 2) (two c.args.kind)) c.put_two.ensures
+    ∙ put_put c.args.at (two c.args.len) (two c.args.kind) _ (omega arith)

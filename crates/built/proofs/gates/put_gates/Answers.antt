@@ -8,27 +8,21 @@ use Rattle.built.proofs.gates.put_gates.Goals as goal
 
 pub loop-init : goal.loop-init
 loop-init c =
-    let start = c in
-    let first = cursor_start _ _ _ _ start.requires.small.whole.gates.inside start.requires.small.whole.gates.rows in
-    let room = room_as _ start.args.out.now (gates_are_parts start.args.text.now start.args.c start.args.kind) start.requires.c_in_bounds in
+    let first = cursor_start _ _ _ _ c.requires.small.whole.gates.inside c.requires.small.whole.gates.rows in
+    let room = room_as _ c.args.out.now (gates_are_parts c.args.text.now c.args.c c.args.kind) c.requires.c_in_bounds in
     (first, turn_start _ _ _ _ room)
 
 pub put_gate-to-requires-clause-line_in_bounds : goal.put_gate-to-requires-clause-line_in_bounds
 put_gate-to-requires-clause-line_in_bounds c =
-    let start = c in
     let turn = c.loop.invariant in
-    let room = room_as _ c.loop.out (line_here _ (gate_line _) _ _ _ _ turn.0.place) (turn_room turn.1 (omega arith)) in
-    room
+    room_as _ c.loop.out (line_here _ (gate_line _) _ _ _ _ turn.0.place) (turn_room turn.1 (omega arith))
 
 pub loop-preserved : goal.loop-preserved
 loop-preserved c =
-    let after_put_gate = c in
-    let turn_at = after_put_gate in
-    let turn = turn_at.loop.invariant in
-    let wrote = wrote_as (sym (line_here _ (gate_line _) _ _ _ _ turn.0.place)) after_put_gate.put_gate-to.ensures in
+    let turn = c.loop.invariant in
+    let wrote = wrote_as (sym (line_here _ (gate_line _) _ _ _ _ turn.0.place)) c.put_gate-to.ensures in
     (cursor_next turn.0 (omega arith) _ c.next_line-line.ensures.0, turn_next turn.1 (omega arith) wrote)
 
 pub returns : goal.returns
 returns c =
-    let start = c in
-    wrote_as (sym (gates_are_parts start.args.text.now start.args.c start.args.kind)) (turn_end c.loop.invariant.1 (omega arith))
+    wrote_as (sym (gates_are_parts c.args.text.now c.args.c c.args.kind)) (turn_end c.loop.invariant.1 (omega arith))

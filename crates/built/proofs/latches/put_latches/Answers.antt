@@ -8,27 +8,21 @@ use Rattle.built.proofs.latches.put_latches.Goals as goal
 
 pub loop-i-init : goal.loop-i-init
 loop-i-init c =
-    let start = c in
-    let first = cursor_start _ _ _ _ start.requires.small.whole.latches.inside start.requires.small.whole.latches.rows in
-    let room = room_as _ start.args.out.now (latches_are_parts start.args.text.now start.args.c) start.requires.c_in_bounds in
+    let first = cursor_start _ _ _ _ c.requires.small.whole.latches.inside c.requires.small.whole.latches.rows in
+    let room = room_as _ c.args.out.now (latches_are_parts c.args.text.now c.args.c) c.requires.c_in_bounds in
     (first, turn_start _ _ _ _ room)
 
 pub put_latch-to-requires-clause-line_in_bounds : goal.put_latch-to-requires-clause-line_in_bounds
 put_latch-to-requires-clause-line_in_bounds c =
-    let start = c in
     let turn = c.loop-i.invariant in
-    let room = room_as _ c.loop-i.out (line_here _ (latch_line _) _ _ _ _ turn.0.place) (turn_room turn.1 (omega arith)) in
-    room
+    room_as _ c.loop-i.out (line_here _ (latch_line _) _ _ _ _ turn.0.place) (turn_room turn.1 (omega arith))
 
 pub loop-i-preserved : goal.loop-i-preserved
 loop-i-preserved c =
-    let after_put_latch = c in
-    let turn_at = after_put_latch in
-    let turn = turn_at.loop-i.invariant in
-    let wrote = wrote_as (sym (line_here _ (latch_line _) _ _ _ _ turn.0.place)) after_put_latch.put_latch-to.ensures in
+    let turn = c.loop-i.invariant in
+    let wrote = wrote_as (sym (line_here _ (latch_line _) _ _ _ _ turn.0.place)) c.put_latch-to.ensures in
     (cursor_next turn.0 (omega arith) _ c.next_line-line.ensures.0, turn_next turn.1 (omega arith) wrote)
 
 pub returns : goal.returns
 returns c =
-    let start = c in
-    wrote_as (sym (latches_are_parts start.args.text.now start.args.c)) (turn_end c.loop-i.invariant.1 (omega arith))
+    wrote_as (sym (latches_are_parts c.args.text.now c.args.c)) (turn_end c.loop-i.invariant.1 (omega arith))

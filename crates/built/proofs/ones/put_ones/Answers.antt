@@ -8,27 +8,21 @@ use Rattle.built.proofs.ones.put_ones.Goals as goal
 
 pub loop-init : goal.loop-init
 loop-init c =
-    let start = c in
-    let first = cursor_start _ _ _ _ start.requires.rows_at.inside start.requires.rows_at.rows in
-    let room = room_as _ start.args.out.now (ones_are_parts start.args.text.now start.args.c start.args.kind start.args.s) start.requires.s_in_bounds in
+    let first = cursor_start _ _ _ _ c.requires.rows_at.inside c.requires.rows_at.rows in
+    let room = room_as _ c.args.out.now (ones_are_parts c.args.text.now c.args.c c.args.kind c.args.s) c.requires.s_in_bounds in
     (first, turn_start _ _ _ _ room)
 
 pub put_one-to-requires-clause-line_in_bounds : goal.put_one-to-requires-clause-line_in_bounds
 put_one-to-requires-clause-line_in_bounds c =
-    let start = c in
     let turn = c.loop.invariant in
-    let room = room_as _ c.loop.out (line_here _ (one_line _) _ _ _ _ turn.0.place) (turn_room turn.1 (omega arith)) in
-    room
+    room_as _ c.loop.out (line_here _ (one_line _) _ _ _ _ turn.0.place) (turn_room turn.1 (omega arith))
 
 pub loop-preserved : goal.loop-preserved
 loop-preserved c =
-    let after_put_one = c in
-    let turn_at = after_put_one in
-    let turn = turn_at.loop.invariant in
-    let wrote = wrote_as (sym (line_here _ (one_line _) _ _ _ _ turn.0.place)) after_put_one.put_one-to.ensures in
+    let turn = c.loop.invariant in
+    let wrote = wrote_as (sym (line_here _ (one_line _) _ _ _ _ turn.0.place)) c.put_one-to.ensures in
     (cursor_next turn.0 (omega arith) _ c.next_line-line.ensures.0, turn_next turn.1 (omega arith) wrote)
 
 pub returns : goal.returns
 returns c =
-    let start = c in
-    wrote_as (sym (ones_are_parts start.args.text.now start.args.c start.args.kind start.args.s)) (turn_end c.loop.invariant.1 (omega arith))
+    wrote_as (sym (ones_are_parts c.args.text.now c.args.c c.args.kind c.args.s)) (turn_end c.loop.invariant.1 (omega arith))

@@ -16,22 +16,13 @@ pub put_literal-requires-clause-at_in_bounds : goal.put_literal-requires-clause-
 put_literal-requires-clause-at_in_bounds c =
     let turn = c.loop-x.invariant in
     let here = literal_at _ _ _ c.word_at-x.ensures turn.0 c.if-text-end-eq10.false in
-    let room = c.requires.from_in_bounds_2 in
-    literal_room _ _ _ room _ _ _ here.bytes _ _ turn.2
+    literal_room _ _ _ c.requires.from_in_bounds_2 _ _ _ here.bytes _ _ turn.2
 
 pub put_literal-requires-clause-le_variable : goal.put_literal-requires-clause-le_variable
-put_literal-requires-clause-le_variable c =
-    let turn = c.loop-x.invariant in
-    let here = literal_at _ _ _ c.word_at-x.ensures turn.0 c.if-text-end-eq10.false in
-    let room = c.requires.from_in_bounds_2 in
-    here.low
+put_literal-requires-clause-le_variable c = (literal_at _ _ _ c.word_at-x.ensures c.loop-x.invariant.0 c.if-text-end-eq10.false).low
 
 pub put_literal-requires-clause-variable_bound : goal.put_literal-requires-clause-variable_bound
-put_literal-requires-clause-variable_bound c =
-    let turn = c.loop-x.invariant in
-    let here = literal_at _ _ _ c.word_at-x.ensures turn.0 c.if-text-end-eq10.false in
-    let room = c.requires.from_in_bounds_2 in
-    here.high
+put_literal-requires-clause-variable_bound c = (literal_at _ _ _ c.word_at-x.ensures c.loop-x.invariant.0 c.if-text-end-eq10.false).high
 
 pub loop-x-smaller : goal.loop-x-smaller
 loop-x-smaller c =
@@ -42,7 +33,6 @@ pub loop-x-preserved : goal.loop-x-preserved
 loop-x-preserved c =
     let turn = c.loop-x.invariant in
     let here = literal_at _ _ _ c.word_at-x.ensures turn.0 c.if-text-end-eq10.false in
-    let room = c.requires.from_in_bounds_2 in
     let inside = byte_after _ _ _ c.word_at-x.ensures turn.0 in
-    let more = literal_more _ _ _ room _ _ _ here.bytes _ _ turn.2 in
+    let more = literal_more _ _ _ c.requires.from_in_bounds_2 _ _ _ here.bytes _ _ turn.2 in
     (here.next, omega (arith, inside), subst⁻¹ (Left _ _ _ _ _) c.put_literal.ensures more)
