@@ -6,19 +6,23 @@ ghost use Rattle.std.specs.Prelude.{◌≡◌, ◌+◌, ◌<◌, ◌≤◌, leng
 ghost use Rattle.meaning.specs.File.{two_at, literal_at, kind_row};
 ghost use Rattle.format.specs.Forms.{literal_of, kind_of, signed_number, signed_literal};
 
-// A problem as it stands in its file: n state variables, m inputs and helpers, k lemmas; and for each of the four kinds of clauses where its
-// first record starts and how many records it has.
+// The records of a kind: where the first starts, and how many they are.
+#[derive(Clone, Copy)]
+pub struct Section {
+    pub at: usize,
+    pub count: usize,
+}
+
+// A problem as it stands in its file: n state variables, m inputs and helpers, k lemmas; and where the records of each of the four kinds of
+// clauses stand. Of the lemmas only the place is given, since k is how many they are, and every contract above calls it k.
 #[derive(Clone, Copy)]
 pub struct Problem {
     pub n: usize,
     pub m: usize,
     pub k: usize,
-    pub init_at: usize,
-    pub init_count: usize,
-    pub tr_at: usize,
-    pub tr_count: usize,
-    pub bad_at: usize,
-    pub bad_count: usize,
+    pub init: Section,
+    pub tr: Section,
+    pub bad: Section,
     pub lemmas_at: usize,
 }
 

@@ -3,10 +3,10 @@ use Rattle.std.specs.Prelude.{ℕ, ◌+◌, ◌≤◌, ◌≡◌, false, cond, L
 use Rattle.std.proofs.Math.Option.{none, some}
 use Rattle.meaning.specs.File.{Reader, Rule, first_wrong, past, kind_at, body_length, body_at, kind_wrong, length_wrong, row_at, n_most, m_most, clauses_most}
 use Rattle.format.specs.declared.Problem.{Problem}
+use Rattle.format.specs.declared.Section.{Section}
 use Rattle.problem.specs.declared.rules.Cursor.{Cursor}
 use Rattle.problem.specs.declared.rules.Step.{Step}
 use Rattle.problem.specs.declared.rules.Step.TheVariants.{Stop, Past}
-use Rattle.problem.specs.declared.sections.Section.{Section}
 use Rattle.problem.specs.declared.sections.Sections.{Sections}
 
 -- what is known where a record must start
@@ -77,11 +77,8 @@ problem_from s n m =
       n = n;
       m = m;
       k = s.lemmas.count;
-      init_at = s.init.at;
-      init_count = s.init.count;
-      tr_at = s.tr.at;
-      tr_count = s.tr.count;
-      bad_at = s.bad.at;
-      bad_count = s.bad.count;
+      init = s.init;
+      tr = s.tr;
+      bad = s.bad;
       lemmas_at = s.lemmas.at;
     }

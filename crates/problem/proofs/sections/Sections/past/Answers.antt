@@ -4,4 +4,4 @@ use Rattle.problem.proofs.sections.Sections.past.Goals as goal
 
 pub returns : goal.returns
 unfolding sections_past
-returns c = rw (← c.past-init.ensures, ← c.past-tr.ensures, ← c.past-bad.ensures, ← c.past-lemmas.ensures)
+returns c = rw (← c.section_past.ensures, ← c.section_past-2.ensures, ← c.section_past-3.ensures, ← c.section_past-4.ensures)

@@ -1,7 +1,7 @@
--- `past` goes by the kind, as the definition does.
+-- `section_past` goes by the kind, as the definition does.
 use borrow.Author.Tests.{lt-ltb, le-ltb, eq-eqb, ne_eqb}
 use Rattle.problem.specs.Records.{section_past}
-use Rattle.problem.proofs.sections.Section.past.Goals as goal
+use Rattle.problem.proofs.sections.section_past.Goals as goal
 
 pub returns-then-kind-own : goal.returns-then-kind-own
 unfolding section_past
