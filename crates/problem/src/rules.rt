@@ -21,6 +21,7 @@ pub struct Cursor {
     pub m: usize,
 }
 
+#[tactic(auto, unfolding(meaning::specs::File::at_start))]
 pub fn at_start() -> Cursor
     ensures { reader_of result ≡ at_start }
 {
@@ -35,7 +36,7 @@ pub fn at_start() -> Cursor
 }
 
 // 3: kind out of 1..6, lower than the one before, a second kind 1, or a first record that isn't kind 1.
-#[tactic(auto, using(std::proofs::lemmas::Bool::Decides::nat_tests), unfolding(meaning::specs::File::kind_wrong))]
+#[tactic(auto, unfolding(meaning::specs::File::kind_wrong))]
 fn kind_wrong(before: usize, kind: usize) -> bool
     ensures { result ≡ kind_wrong before kind }
 {
@@ -43,21 +44,21 @@ fn kind_wrong(before: usize, kind: usize) -> bool
 }
 
 // 4: body length not allowed for the kind.
-#[tactic(auto, using(std::proofs::lemmas::Bool::Decides::nat_tests), unfolding(meaning::specs::File::length_wrong))]
+#[tactic(auto, unfolding(meaning::specs::File::length_wrong))]
 fn length_wrong(row: Row, len: usize) -> bool
     ensures { result ≡ length_wrong (kind_of row) len }
 {
     len < row.shortest || row.longest < len || row.even && len % 2 != 0
 }
 
-#[tactic(auto, using(std::proofs::lemmas::Bool::Decides::nat_tests), unfolding(meaning::specs::File::is_clause))]
+#[tactic(auto, unfolding(meaning::specs::File::is_clause))]
 fn is_clause(class: Class) -> bool
     ensures { result ≡ is_clause (class_of class) }
 {
     !matches!(class, Class::Nothing)
 }
 
-#[tactic(auto, using(std::proofs::lemmas::Bool::Decides::nat_tests), unfolding(meaning::specs::File::one_if_clause))]
+#[tactic(auto, unfolding(meaning::specs::File::one_if_clause))]
 fn one_if_clause(class: Class) -> usize
     ensures { (result ≡ one_if_clause (class_of class)) × (result ≤ 1) }
 {
@@ -65,7 +66,7 @@ fn one_if_clause(class: Class) -> usize
 }
 
 // 7: record that exceeds 4,096 clauses or 128 lemmas.
-#[tactic(auto, using(std::proofs::lemmas::Bool::Decides::nat_tests), unfolding(meaning::specs::File::too_many))]
+#[tactic(auto, unfolding(meaning::specs::File::too_many))]
 fn too_many(row: Row, same: usize, clauses: usize) -> bool
     ensures { result ≡ too_many (kind_of row) same clauses }
 {
@@ -73,7 +74,7 @@ fn too_many(row: Row, same: usize, clauses: usize) -> bool
 }
 
 // 5: n or m out of range.
-#[tactic(auto, using(std::proofs::lemmas::Bool::Decides::nat_tests), unfolding(meaning::specs::File::counts_wrong))]
+#[tactic(auto, unfolding(meaning::specs::File::counts_wrong))]
 fn counts_wrong(file: &[u8], kind: usize, body: usize) -> bool
     requires { kind ≡ 1 → body + 3 < length file.now }
     ensures { result ≡ counts_wrong kind (two_at file.now body) (two_at file.now (body + 2)) }
@@ -86,7 +87,7 @@ fn counts_wrong(file: &[u8], kind: usize, body: usize) -> bool
 }
 
 // Whether a class names a variable.
-#[tactic(auto, using(std::proofs::lemmas::Bool::Decides::nat_tests), unfolding(meaning::specs::File::names, meaning::specs::File::between))]
+#[tactic(auto, unfolding(meaning::specs::File::names, meaning::specs::File::between))]
 fn names(class: Class, n: usize, m: usize, v: usize) -> bool
     requires { (n ≤ Problem.N_MOST) × (m ≤ Problem.M_MOST) }
     ensures { result ≡ names (class_of class) n m v }
@@ -100,7 +101,7 @@ fn names(class: Class, n: usize, m: usize, v: usize) -> bool
 }
 
 // How many literals a body of a class and a length holds.
-#[tactic(auto, using(std::proofs::lemmas::Bool::Decides::nat_tests), unfolding(meaning::specs::File::literal_count))]
+#[tactic(auto, unfolding(meaning::specs::File::literal_count))]
 fn literal_count(class: Class, len: usize) -> usize
     ensures { result ≡ literal_count (class_of class) len }
 {
@@ -111,7 +112,7 @@ fn literal_count(class: Class, len: usize) -> usize
 }
 
 // A literal that names none of the variables of its class.
-#[tactic(auto, using(std::proofs::lemmas::Bool::Decides::nat_tests), unfolding(meaning::specs::File::offends, meaning::specs::Clauses::variable))]
+#[tactic(auto, unfolding(meaning::specs::File::offends, meaning::specs::Clauses::variable))]
 fn offends(class: Class, n: usize, m: usize, l: Literal) -> bool
     requires { (n ≤ Problem.N_MOST) × (m ≤ Problem.M_MOST) }
     ensures { result ≡ offends (names (class_of class) n m) (literal_of l) }

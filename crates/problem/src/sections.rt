@@ -5,6 +5,7 @@ ghost use Rattle.problem.specs.Records.{section_past, sections_past, no_sections
 use format::{Problem, Section};
 
 // After a record of a kind that ends before `next`: one more of its own kind; of a later kind none yet, from `next` on.
+#[tactic(auto, unfolding(crate::specs::Records::section_past))]
 fn section_past(s: Section, own: usize, kind: usize, next: usize) -> Section
     requires { s.count ≤ Problem.CLAUSES_MOST }
     ensures { result ≡ section_past own kind next s }
@@ -30,6 +31,7 @@ pub struct Sections {
     pub lemmas: Section,
 }
 
+#[tactic(auto, unfolding(crate::specs::Records::no_section, crate::specs::Records::no_sections))]
 pub fn at_start() -> Sections
     ensures { result ≡ no_sections }
 {
@@ -44,6 +46,7 @@ pub fn at_start() -> Sections
 
 impl Sections {
     // After a record of a kind that ends before `next`.
+    #[tactic(auto, unfolding(crate::specs::Records::sections_past))]
     pub fn past(self, kind: usize, next: usize) -> Sections
         requires { Few self }
         ensures { result ≡ sections_past kind next self }
