@@ -84,9 +84,10 @@ set_by_other Fails v h = refl
 set_by_other (More l) v h = refl
 set_by_other (One l) v h = absurd (h l refl)
 
--- one turn of a pass: a clause, its status, what was heard of it and the setting after it
-pub turn : (t r : Tally) (s : Status.Status) (v u : Setting) (c : Clause) → status_of s ≡ status v c
-    → ((w : Setting) → tally_at r (set_by (status_of s) w) ≡ met_on (status_of s) (tally_at t w)) → u ≡ set_by (status_of s) v
+-- one turn of a pass: a clause, its status, and the pass that has met it
+abbrev pub Met : Tally → Setting → Status.Status → Tally → Setting → Type 0
+Met t v s r u = tally_at r u ≡ met_on (status_of s) (tally_at t v)
+
+pub turn : (t r : Tally) (s : Status.Status) (v u : Setting) (c : Clause) → status_of s ≡ status v c → Met t v s r u
     → meet c (tally_at t v) ≡ tally_at r u
-turn t r s v u c e heard set =
-    sym (meet_at t v c) ∙ ap (λ (x : Sweep.Status). met_on x (tally_at t v)) (sym e) ∙ sym (heard v) ∙ ap (tally_at r) (sym set)
+turn t r s v u c e told = sym (meet_at t v c) ∙ ap (λ (x : Sweep.Status). met_on x (tally_at t v)) (sym e) ∙ sym told
