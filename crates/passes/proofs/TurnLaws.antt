@@ -15,6 +15,7 @@ use Rattle.format.specs.Section.{next_record, clause_at, section}
 use Rattle.format.specs.Forms.{literal_of}
 use Rattle.passes.specs.Sweep.{Pass, status, closed, sweep}
 use Rattle.passes.specs.declared.Tally.{Tally}
+use Rattle.passes.specs.declared.Tally.TheVariants.{Closed}
 use Rattle.passes.specs.declared.Status.{Status}
 use Rattle.passes.specs.declared.Status.TheVariants.{Holds, Fails, One, More}
 use Rattle.passes.specs.Forms.{status_of, tally_at}
@@ -22,7 +23,7 @@ use Rattle.passes.specs.Places.{Literals, Records, Denials, OneBelow}
 use Rattle.passes.proofs.PassLaws.{sweep_closed}
 use Rattle.passes.proofs.PlaceLaws.{section_more, section_done, record_inside, record_literals, records_next, marks_in, marks_out, marks_none, some_left, one_fewer, two_on, denied_more, denials_next, denial_range, denial_within}
 use Rattle.passes.proofs.StatusLaws.{one_range}
-use Rattle.passes.proofs.TallyLaws.{Met, turn, shut_at}
+use Rattle.passes.proofs.TallyLaws.{Met, turn}
 
 -- the literal of a clause that forces one is in range
 pub one_below : (v : Setting) (c : Clause) → ClauseWithin 512 c → (s : Status) → status_of s ≡ status v c → OneBelow s
@@ -34,9 +35,9 @@ one_below v c within (One l) e =
 one_below v c within (More l) e = tt
 
 -- a pass that is closed is over
-pub over : (t : Tally) (v : Setting) (cs : List Clause) (whole : Pass) → t.kind ≡ 2 → whole ≡ sweep cs (tally_at t v) → tally_at t v ≡ whole
+pub over : (t : Tally) (v : Setting) (cs : List Clause) (whole : Pass) → t ≡ Closed → whole ≡ sweep cs (tally_at t v) → tally_at t v ≡ whole
 over t v cs whole is left =
-    let shut : tally_at t v ≡ closed = shut_at t v is in
+    let shut : tally_at t v ≡ closed = ap (λ (x : Tally). tally_at x v) is in
     shut ∙ sym (sweep_closed cs) ∙ ap (sweep cs) (sym shut) ∙ sym left
 
 -- the lemmas of a set, from a position on

@@ -73,34 +73,24 @@ fn scan(file: &[u8], start: usize, count: usize, values: &[u8; 513]) -> Status
 }
 
 // After a clause that forces a literal, which is set.
+#[tactic(auto, unfolding(crate::specs::Sweep::met_on, crate::specs::Sweep::met_by))]
 fn forced(t: Tally) -> Tally
     ensures { (l : Meant) (v : Partial) → tally_at result (with_literal v l) ≡ spec.met_on (spec.one l) (tally_at t v) }
 {
-    if t.kind == 2 {
-        return t;
-    }
-    Tally {
-        kind: 1,
-        variable: 0,
+    match t {
+        Tally::Closed => t,
+        Tally::Satisfied | Tally::Forced | Tally::Try(_) => Tally::Forced,
     }
 }
 
 // After a clause with several unset places: rule (d) tries the first unset literal of the first such clause.
+#[tactic(auto, unfolding(crate::specs::Sweep::met_on, crate::specs::Sweep::met_by, crate::specs::Sweep::opened))]
 fn opened(t: Tally, l: Literal) -> Tally
     ensures { (v : Partial) → tally_at result v ≡ spec.met_on (spec.more (literal_of l)) (tally_at t v) }
 {
-    if t.kind != 0 {
-        return t;
-    }
-    match l {
-        Literal::Pos(x) => Tally {
-            kind: 3,
-            variable: x,
-        },
-        Literal::Neg(x) => Tally {
-            kind: 4,
-            variable: x,
-        },
+    match t {
+        Tally::Satisfied => Tally::Try(l),
+        Tally::Forced | Tally::Closed | Tally::Try(_) => t,
     }
 }
 
@@ -111,10 +101,7 @@ fn met(t: Tally, s: Status, values: &mut [u8; 513]) -> Tally
 {
     match s {
         Status::Holds => t,
-        Status::Fails => Tally {
-            kind: 2,
-            variable: 0,
-        },
+        Status::Fails => Tally::Closed,
         Status::One(l) => {
             set_true(values, l);
             forced(t)
@@ -137,7 +124,7 @@ pub fn sweep_records(
     let mut tally = t;
     let mut at = start;
     for i in 0..count {
-        if tally.kind == 2 {
+        if let Tally::Closed = tally {
             return tally;
         }
         let len = two_at(file, at);
@@ -162,7 +149,7 @@ pub fn sweep_marked(
     let mut tally = t;
     let mut at = start;
     for i in 0..count {
-        if tally.kind == 2 {
+        if let Tally::Closed = tally {
             return tally;
         }
         let len = two_at(file, at);
@@ -214,7 +201,7 @@ pub fn sweep_denied(
 {
     let mut tally = t;
     for i in 0..count {
-        if tally.kind == 2 {
+        if let Tally::Closed = tally {
             return tally;
         }
         let l = denial(literal_at(file, start + 2 * i), added);

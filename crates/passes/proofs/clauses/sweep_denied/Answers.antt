@@ -37,10 +37,10 @@ loop-i-init c =
           (tally_at c.args.t (entries c.args.values.now))) f e;
     }
 
-pub returns-then-tally-eq2 : goal.returns-then-tally-eq2
-returns-then-tally-eq2 c =
+pub returns-in-Closed : goal.returns-in-Closed
+returns-in-Closed c =
     over c.loop-i.tally (entries c.loop-i.values) (denied_from c.args.file.now c.args.start c.args.count c.args.added c.loop-i.i) _
-    c.if-tally-eq2.true c.loop-i.invariant.so_far
+    c.in-Closed.is c.loop-i.invariant.so_far
 
 pub denial-l-requires : goal.denial-l-requires
 denial-l-requires c =

@@ -36,10 +36,10 @@ loop-i-init c =
           (tally_at c.args.t (entries c.args.values.now))) e;
     }
 
-pub returns-then-tally-eq2 : goal.returns-then-tally-eq2
-returns-then-tally-eq2 c =
+pub returns-in-Closed : goal.returns-in-Closed
+returns-in-Closed c =
     over c.loop-i.tally (entries c.loop-i.values) (lemmas_from c.args.file.now c.args.on.now c.loop-i.at c.args.count c.loop-i.i) _
-    c.if-tally-eq2.true c.loop-i.invariant.so_far
+    c.in-Closed.is c.loop-i.invariant.so_far
 
 pub two_at-len-requires : goal.two_at-len-requires
 two_at-len-requires c =

@@ -25,10 +25,10 @@ clause c =
     record_clause c.args.file.now c.loop-i.at c.args.count c.loop-i.i c.loop-i-test.true c.loop-i.invariant.left
     c.two_at-len.result c.two_at-len.ensures.0
 
-pub returns-then-tally-eq2 : goal.returns-then-tally-eq2
-returns-then-tally-eq2 c =
+pub returns-in-Closed : goal.returns-in-Closed
+returns-in-Closed c =
     over c.loop-i.tally (entries c.loop-i.values) (section c.args.file.now c.loop-i.at (c.args.count - c.loop-i.i)) _
-    c.if-tally-eq2.true c.loop-i.invariant.so_far
+    c.in-Closed.is c.loop-i.invariant.so_far
 
 pub two_at-len-requires : goal.two_at-len-requires
 two_at-len-requires c =
