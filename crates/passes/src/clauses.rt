@@ -153,7 +153,8 @@ pub fn sweep_marked(
             return tally;
         }
         let len = two_at(file, at);
-        if on[i] {
+        let marked = on[i];
+        if marked {
             tally = met(tally, scan(file, at + 4, len / 2, values), values);
         }
         at += 4 + len;

@@ -94,9 +94,9 @@ fn names(class: Class, n: usize, m: usize, v: usize) -> bool
 {
     match class {
         Class::Nothing => false,
-        Class::State => (1..=n).contains(&v),
-        Class::Present => (1..=n).contains(&v) || (n + n + 1..=n + n + m).contains(&v),
-        Class::Every => (1..=n + n + m).contains(&v),
+        Class::State => 1 <= v && v <= n,
+        Class::Present => 1 <= v && v <= n || n + n + 1 <= v && v <= n + n + m,
+        Class::Every => 1 <= v && v <= n + n + m,
     }
 }
 

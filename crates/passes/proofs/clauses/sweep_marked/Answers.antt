@@ -12,7 +12,7 @@ use Rattle.passes.specs.Forms.{entries, tally_at}
 use Rattle.passes.specs.Places.{Records, Literals}
 use Rattle.passes.proofs.PlaceLaws.{record_inside}
 use Rattle.passes.proofs.TurnLaws.{lemmas_from, lemmas_done, record_fits, record_clause, records_after, lemma_out, lemma_in, one_below, over}
-use Rattle.passes.proofs.clauses.sweep_marked.Goals.{After-two_at-len, then-on-i, else-on-i}
+use Rattle.passes.proofs.clauses.sweep_marked.Goals.{After-two_at-len, then-marked, else-marked}
 use Rattle.passes.proofs.clauses.sweep_marked.Goals as goal
 
 -- the record that is read
@@ -68,8 +68,8 @@ loop-i-preserved c =
     let after =
     records_after file c.loop-i.at c.args.count c.loop-i.i c.loop-i-test.true c.loop-i.invariant.left c.two_at-len.result
     c.two_at-len.ensures.0 in
-    elim c.if-on-i.branch [
-      | then-on-i w ↦
+    elim c.if-marked.branch [
+      | then-marked w ↦
           rw (w.tally-is, w.values-is)
           (record {
             left = after;
@@ -77,16 +77,16 @@ loop-i-preserved c =
                 c.loop-i.invariant.so_far
                 ∙ lemma_in file c.loop-i.at c.args.count c.loop-i.i c.loop-i-test.true c.loop-i.invariant.left c.two_at-len.result
                 c.two_at-len.ensures.0 c.loop-i.tally w.met-tally.result w.scan.result (entries c.loop-i.values)
-                (entries w.met-tally.new.values) w.scan.ensures w.met-tally.ensures c.args.on.now w.if-on-i.true;
+                (entries w.met-tally.new.values) w.scan.ensures w.met-tally.ensures c.args.on.now w.if-marked.true;
           })
-      | else-on-i w ↦
+      | else-marked w ↦
           rw (w.tally-is, w.values-is)
           (record {
             left = after;
             so_far =
                 c.loop-i.invariant.so_far
                 ∙ lemma_out file c.loop-i.at c.args.count c.loop-i.i c.loop-i-test.true c.loop-i.invariant.left c.two_at-len.result
-                c.two_at-len.ensures.0 c.args.on.now (tally_at c.loop-i.tally (entries c.loop-i.values)) w.if-on-i.false;
+                c.two_at-len.ensures.0 c.args.on.now (tally_at c.loop-i.tally (entries c.loop-i.values)) w.if-marked.false;
           })
     ]
 
