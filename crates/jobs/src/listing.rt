@@ -8,10 +8,9 @@ ghost use Rattle.sets.specs.Asks.{asks};
 ghost use Rattle.jobs.specs.Outcome.{outcome_of};
 ghost use Rattle.jobs.specs.ListingCall.{reported_as, report_at};
 
-use crate::marks::refused;
 use branches::nodes::node;
 use format::Problem;
-use problem::{Checked, Report, read_problem};
+use problem::{Report, read_problem};
 use rows::found::Progress;
 use sets::members::{count, nothing};
 use sets::picks::{judge, largest};
@@ -70,7 +69,7 @@ pub fn list_all(file: &[u8], budget: u32, rows: &mut [u8]) -> Report
 {
     let read = read_problem(file);
     match read {
-        Checked::Accepted(p) => list_placed(file, p, budget as u64, rows),
-        Checked::Refused(number, place) => refused(number, place, 0, 0),
+        Ok(p) => list_placed(file, p, budget as u64, rows),
+        Err(r) => Report::from(r),
     }
 }

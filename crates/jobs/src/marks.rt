@@ -8,7 +8,7 @@ ghost use Rattle.jobs.specs.Outcome.{outcome_of};
 ghost use Rattle.jobs.specs.Leaving.{left_by};
 
 use format::Problem;
-use problem::{Checked, Report};
+use problem::Report;
 use rows::row::write_row;
 use sets::picks::{Judged, largest, single};
 
@@ -102,8 +102,8 @@ pub fn mark_largest(file: &[u8], budget: u32, marks: &mut [u8]) -> Report
 {
     let read = problem::read_problem(file);
     match read {
-        Checked::Accepted(p) => largest_of(file, p, budget, marks),
-        Checked::Refused(number, place) => refused(number, place, 0, 0),
+        Ok(p) => largest_of(file, p, budget, marks),
+        Err(r) => Report::from(r),
     }
 }
 
@@ -113,7 +113,7 @@ pub fn mark_one(file: &[u8], budget: u32, marks: &mut [u8]) -> Report
 {
     let read = problem::read_problem(file);
     match read {
-        Checked::Accepted(p) => one_of(file, p, budget, marks),
-        Checked::Refused(number, place) => refused(number, place, 0, 0),
+        Ok(p) => one_of(file, p, budget, marks),
+        Err(r) => Report::from(r),
     }
 }

@@ -81,30 +81,30 @@ module _ (file : List ℕ) (p : Problem) (placed : Placed file p) where
   unfolding problem_at width
   width_small = omega (arith, placed.n_in, placed.m_in)
 
-  init_records : Records file p.init_at p.init_count
+  init_records : Records file p.init.at p.init.count
   unfolding problem_at
   init_records =
       record {
         inside = placed.init_in;
-        within = within_wider p.n 512 (omega (arith, n_small)) (section file p.init_at p.init_count) placed.well_formed.init;
+        within = within_wider p.n 512 (omega (arith, n_small)) (section file p.init.at p.init.count) placed.well_formed.init;
       }
 
-  tr_records : Records file p.tr_at p.tr_count
+  tr_records : Records file p.tr.at p.tr.count
   unfolding problem_at
   tr_records =
       record {
         inside = placed.tr_in;
-        within = within_wider (width (problem_at file p)) 512 width_small (section file p.tr_at p.tr_count) placed.well_formed.tr;
+        within = within_wider (width (problem_at file p)) 512 width_small (section file p.tr.at p.tr.count) placed.well_formed.tr;
       }
 
-  bad_records : Records file p.bad_at p.bad_count
+  bad_records : Records file p.bad.at p.bad.count
   unfolding problem_at width
   bad_records =
       record {
         inside = placed.bad_in;
         within =
-            within_wider (width (problem_at file p)) 512 width_small (section file p.bad_at p.bad_count)
-            (present_within p.n p.m (section file p.bad_at p.bad_count) placed.well_formed.bad);
+            within_wider (width (problem_at file p)) 512 width_small (section file p.bad.at p.bad.count)
+            (present_within p.n p.m (section file p.bad.at p.bad.count) placed.well_formed.bad);
       }
 
   lemma_records : Records file p.lemmas_at p.k
@@ -154,8 +154,8 @@ module _ (file : List ℕ) (p : Problem) (placed : Placed file p) where
           }
 
       pub initiation_parts : Asks file p (Initiation d) (record {
-        first_at = p.init_at;
-        first_count = p.init_count;
+        first_at = p.init.at;
+        first_count = p.init.count;
         lemmas_at = 0;
         lemmas_count = 0;
         last_at = 0;
@@ -177,14 +177,14 @@ module _ (file : List ℕ) (p : Problem) (placed : Placed file p) where
                 };
             same =
                 λ on.
-                ap (λ (cs : List Clause). section file p.init_at p.init_count ++ cs)
+                ap (λ (cs : List Clause). section file p.init.at p.init.count ++ cs)
                 (ap (λ (cs : List Clause). cs ++ denied (map (next 0) (literals file (at + 4) count))) (marks_none on)
                 ∙ ap denied (next_zero (literals file (at + 4) count) ∙ there));
           }
 
       pub step_parts : Asks file p (Step d) (record {
-        first_at = p.tr_at;
-        first_count = p.tr_count;
+        first_at = p.tr.at;
+        first_count = p.tr.count;
         lemmas_at = p.lemmas_at;
         lemmas_count = p.k;
         last_at = 0;
@@ -206,10 +206,10 @@ module _ (file : List ℕ) (p : Problem) (placed : Placed file p) where
                 };
             same =
                 λ on.
-                ap (λ (cs : List Clause). section file p.tr_at p.tr_count ++ (cs ++ denied (map (next p.n) (literals file (at + 4) count))))
+                ap (λ (cs : List Clause). section file p.tr.at p.tr.count ++ (cs ++ denied (map (next p.n) (literals file (at + 4) count))))
                 (marks_enough file p.lemmas_at p.k on)
                 ∙ ap (λ (c : Clause).
-                section file p.tr_at p.tr_count
+                section file p.tr.at p.tr.count
                 ++ (at_marks (take p.k on) (section file p.lemmas_at p.k) ++ denied (map (next p.n) c))) there;
           }
 
@@ -218,8 +218,8 @@ module _ (file : List ℕ) (p : Problem) (placed : Placed file p) where
     first_count = 0;
     lemmas_at = p.lemmas_at;
     lemmas_count = p.k;
-    last_at = p.bad_at;
-    last_count = p.bad_count;
+    last_at = p.bad.at;
+    last_count = p.bad.count;
     denied_at = 0;
     denied_count = 0;
     added = 0;
@@ -237,9 +237,9 @@ module _ (file : List ℕ) (p : Problem) (placed : Placed file p) where
             };
         same =
             λ on.
-            ap (λ (cs : List Clause). cs ++ (section file p.bad_at p.bad_count ++ [])) (marks_enough file p.lemmas_at p.k on)
+            ap (λ (cs : List Clause). cs ++ (section file p.bad.at p.bad.count ++ [])) (marks_enough file p.lemmas_at p.k on)
             ∙ ap (λ (cs : List Clause). at_marks (take p.k on) (section file p.lemmas_at p.k) ++ cs)
-            (append-nil (section file p.bad_at p.bad_count));
+            (append-nil (section file p.bad.at p.bad.count));
       }
 
   -- the search of a question over all 512 variables answers it

@@ -20,10 +20,7 @@ fn sweep_all(file: &[u8], on: &[bool; 128], q: Parts, values: &mut [u8; 513]) ->
     ensures { tally_at result (entries values.new)
         ≡ sweep (parts_clauses file.now on.now q) (passed (entries values.old) satisfied) }
 {
-    let start = Tally {
-        kind: 0,
-        variable: 0,
-    };
+    let start = Tally::Satisfied;
     let first = sweep_records(file, q.first_at, q.first_count, values, start);
     let lemmas = sweep_marked(file, on, q.lemmas_at, q.lemmas_count, values, first);
     let last = sweep_records(file, q.last_at, q.last_count, values, lemmas);
@@ -34,20 +31,12 @@ fn sweep_all(file: &[u8], on: &[bool; 128], q: Parts, values: &mut [u8; 513]) ->
 fn named(t: Tally) -> Next
     ensures { (v : Partial) → pass_at result v ≡ tally_at t v }
 {
-    let x = t.variable;
-    if t.kind == 0 {
-        return Next::Satisfied;
+    match t {
+        Tally::Satisfied => Next::Satisfied,
+        Tally::Forced => Next::Forced,
+        Tally::Closed => Next::Closed,
+        Tally::Try(l) => Next::Try(l),
     }
-    if t.kind == 1 {
-        return Next::Forced;
-    }
-    if t.kind == 2 {
-        return Next::Closed;
-    }
-    if t.kind == 3 {
-        return Next::Try(Literal::Pos(x));
-    }
-    Next::Try(Literal::Neg(x))
 }
 
 // Rule (c), as long as it serves: a clause with no true literal and exactly one place holding an unset literal has that literal set true, not

@@ -31,8 +31,8 @@ pub fn parts_of(file: &[u8], p: Problem, q: Question) -> Parts
         Question::Initiation(d) => {
             let at = record_at(file, p.lemmas_at, d);
             Parts {
-                first_at: p.init_at,
-                first_count: p.init_count,
+                first_at: p.init.at,
+                first_count: p.init.count,
                 lemmas_at: 0,
                 lemmas_count: 0,
                 last_at: 0,
@@ -45,8 +45,8 @@ pub fn parts_of(file: &[u8], p: Problem, q: Question) -> Parts
         Question::Step(d) => {
             let at = record_at(file, p.lemmas_at, d);
             Parts {
-                first_at: p.tr_at,
-                first_count: p.tr_count,
+                first_at: p.tr.at,
+                first_count: p.tr.count,
                 lemmas_at: p.lemmas_at,
                 lemmas_count: p.k,
                 last_at: 0,
@@ -61,8 +61,8 @@ pub fn parts_of(file: &[u8], p: Problem, q: Question) -> Parts
             first_count: 0,
             lemmas_at: p.lemmas_at,
             lemmas_count: p.k,
-            last_at: p.bad_at,
-            last_count: p.bad_count,
+            last_at: p.bad.at,
+            last_count: p.bad.count,
             denied_at: 0,
             denied_count: 0,
             added: 0,

@@ -8,7 +8,6 @@ ghost use Rattle.told_lemmas.specs.Lemmas.{literal_text, literals_text, clause_t
 ghost use Rattle.told_lemmas.specs.LemmaLaws.{Stands};
 
 use format::{Literal, Problem};
-use problem::Checked;
 use text::{put, put_all, put_filled};
 
 // A literal, with a space before it.
@@ -81,7 +80,7 @@ pub fn lemma_line(file: &[u8], position: usize, out: &mut [u8]) -> usize
     let at = put_filled(out, 0, b"  lemma #:", position as u64, 0, 0);
     let read = problem::read_problem(file);
     match read {
-        Checked::Accepted(p) => put_lemma(out, at, file, p, position),
-        Checked::Refused(_, _) => put_all(out, at, b" there is none\n"),
+        Ok(p) => put_lemma(out, at, file, p, position),
+        Err(_) => put_all(out, at, b" there is none\n"),
     }
 }

@@ -4,16 +4,16 @@ use Rattle.meaning.specs.Calls.{one_call, one_job}
 use Rattle.jobs.specs.Calling.{call_accepted, call_refused}
 use Rattle.jobs.proofs.marks.mark_one.Goals as goal
 
-pub returns-in-Accepted : goal.returns-in-Accepted
+pub returns-in-Ok : goal.returns-in-Ok
 unfolding one_call
-returns-in-Accepted c =
+returns-in-Ok c =
     let a = c.args in
     c.one_of.ensures
-    ∙ call_accepted a.file.now (one_job a.budget) a.marks.now _ c.read_problem-read.ensures.0 _ c.in-Accepted.is
+    ∙ call_accepted a.file.now (one_job a.budget) a.marks.now _ c.read_problem-read.ensures.0 _ c.in-Ok.is
 
-pub returns-in-Refused : goal.returns-in-Refused
+pub returns-in-Err : goal.returns-in-Err
 unfolding one_call
-returns-in-Refused c =
+returns-in-Err c =
     let a = c.args in
-    call_refused a.file.now (one_job a.budget) a.marks.now _ c.read_problem-read.ensures.0 _ _ _ c.in-Refused.is
-    c.refused.ensures
+    call_refused a.file.now (one_job a.budget) a.marks.now _ c.read_problem-read.ensures.0 _ _ c.in-Err.is
+    c.from.ensures
