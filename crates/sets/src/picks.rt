@@ -57,6 +57,16 @@ pub fn largest(file: &[u8], p: Problem, left: u64) -> Result<Kept, Spent>
     })
 }
 
+// The largest set, and its safety.
+pub fn largest_judged(file: &[u8], p: Problem, left: u64) -> Result<Judged, Spent>
+    requires placed { Placed file.now p }
+    requires left_bound { left ≤ 4294967295 }
+    ensures { JudgedIs (asks file.now p) p.k left (Rules.largest (asks file.now p) p.k) result }
+{
+    let x = largest(file, p, left)?;
+    judge(file, p, x, left)
+}
+
 // X is Rounds of s without q, and its safety is asked.
 pub fn reduce(file: &[u8], p: Problem, s: Marks, q: usize, left: u64) -> Result<Judged, Spent>
     requires placed { Placed file.now p }
@@ -118,8 +128,7 @@ pub fn single(file: &[u8], p: Problem, left: u64) -> Result<Judged, Spent>
     requires left_bound { left ≤ 4294967295 }
     ensures { SingleIs (asks file.now p) p.k left result }
 {
-    let top = largest(file, p, left)?;
-    let b = judge(file, p, top, left)?;
+    let b = largest_judged(file, p, left)?;
     if !b.safe {
         return Ok(b);
     }
