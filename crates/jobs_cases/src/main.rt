@@ -15,29 +15,67 @@ fn run<F: FnOnce(&[u8], u32, &mut [u8]) -> Report>(
 {
     let mut lent = [7u8; 2];
     let r = job(file, 1000, &mut lent);
-    println!(rt; "{name} {} {} {} {}: {} {}", r.number, r.place, r.decisions, r.rows, lent[0], lent[1])
+    println!(rt;
+        "{name} {} {} {} {}: {} {}",
+        r.number, r.place, r.decisions, r.rows, lent[0], lent[1]
+    )
 }
 
 fn main(rt: HostRuntime) -> io::Result<()> {
     let k =
         b"\x04\x00\x01\x00\x01\x00\x00\x00\x02\x00\x02\x00\x01\x00\x02\x00\x02\x00\xff\xff\x04\x00\x03\x00\xfe\xff\x01\x00\x04\x00\x03\x00\x02\x00\xff\xff\x02\x00\x04\x00\xff\xff\x00\x00\x05\x00\x00\x00\x06\x00";
-    run(&rt, "K largest", k, jobs::mark_largest)?;
-    run(&rt, "K one", k, jobs::mark_one)?;
-    run(&rt, "K list", k, jobs::list_all)?;
+    run(
+        &rt,
+        "K largest",
+        k,
+        |f, n, lent| jobs::mark_largest(f, n, lent),
+    )?;
+    run(&rt, "K one", k, |f, n, lent| jobs::mark_one(f, n, lent))?;
+    run(&rt, "K list", k, |f, n, lent| jobs::list_all(f, n, lent))?;
     let l =
         b"\x04\x00\x01\x00\x01\x00\x00\x00\x02\x00\x02\x00\x01\x00\x04\x00\x03\x00\xfe\xff\x01\x00\x04\x00\x03\x00\x02\x00\xff\xff\x02\x00\x04\x00\xff\xff\x02\x00\x05\x00\x01\x00\x00\x00\x06\x00";
-    run(&rt, "L largest", l, jobs::mark_largest)?;
-    run(&rt, "L one", l, jobs::mark_one)?;
-    run(&rt, "L list", l, jobs::list_all)?;
+    run(
+        &rt,
+        "L largest",
+        l,
+        |f, n, lent| jobs::mark_largest(f, n, lent),
+    )?;
+    run(&rt, "L one", l, |f, n, lent| jobs::mark_one(f, n, lent))?;
+    run(&rt, "L list", l, |f, n, lent| jobs::list_all(f, n, lent))?;
     let cut =
         b"\x04\x00\x01\x00\x01\x00\x00\x00\x02\x00\x02\x00\x01\x00\x04\x00\x03\x00\xfe\xff\x01\x00\x04\x00\x03\x00\x02\x00\xff\xff\x02\x00\x04\x00\xff\xff\x02\x00\x05\x00\x01\x00\x00\x00\x06";
-    run(&rt, "L cut one", cut, jobs::mark_one)?;
-    run(&rt, "L cut list", cut, jobs::list_all)?;
+    run(
+        &rt,
+        "L cut one",
+        cut,
+        |f, n, lent| jobs::mark_one(f, n, lent),
+    )?;
+    run(
+        &rt,
+        "L cut list",
+        cut,
+        |f, n, lent| jobs::list_all(f, n, lent),
+    )?;
     let longer =
         b"\x04\x00\x01\x00\x01\x00\x00\x00\x02\x00\x02\x00\x01\x00\x04\x00\x03\x00\xfe\xff\x01\x00\x04\x00\x03\x00\x02\x00\xff\xff\x02\x00\x04\x00\xff\xff\x02\x00\x05\x00\x01\x00\x00\x00\x06\x00\x00";
-    run(&rt, "L longer one", longer, jobs::mark_one)?;
-    run(&rt, "L longer list", longer, jobs::list_all)?;
+    run(
+        &rt,
+        "L longer one",
+        longer,
+        |f, n, lent| jobs::mark_one(f, n, lent),
+    )?;
+    run(
+        &rt,
+        "L longer list",
+        longer,
+        |f, n, lent| jobs::list_all(f, n, lent),
+    )?;
     let least = b"\x04\x00\x01\x00\x01\x00\x00\x00\x02\x00\x05\x00\x00\x80\x00\x00\x06\x00";
-    run(&rt, "M -32768 one", least, jobs::mark_one)?;
+    run(
+        &rt,
+        "M -32768 one",
+        least,
+        |f, n, lent| jobs::mark_one(f, n, lent),
+    )?;
     Ok(())
 }
