@@ -1,13 +1,12 @@
 -- The clauses of a question as they stand in a file, and how a pass over them ends.
-use denote.Enum.Declared.{tag_of}
 use Prim.Native.Nat.{ℕ, ◌+◌, ◌-◌, ◌≤◌, ◌<◌}
 use native.Mathlib.Nat.{pos_of_ne-zero}
 use native.Mathlib.Omega.{arith}
 use mathlib.Core.Path.{◌≡◌, refl, sym, ap, ◌∙◌, subst}
-use mathlib.Core.Logic.{◌⊎◌, inl, inr}
 use mathlib.Core.Bool.{Bool}
 use mathlib.Core.List.{List, ◌++◌, map}
 use lib.ListN.{length}
+use Rattle.std.specs.Prelude.{Ok, Err}
 use Rattle.meaning.specs.Clauses.{Literal, Clause, variable, negation}
 use Rattle.meaning.specs.Meaning.{at_marks}
 use Rattle.meaning.specs.File.{literals}
@@ -24,11 +23,9 @@ use Rattle.format.specs.declared.Literal.{Literal as Held}
 use Rattle.search.specs.declared.Parts.{Parts}
 use Rattle.search.specs.declared.Next.{Next}
 use Rattle.search.specs.declared.Next.TheVariants.{Satisfied, Try, Forced, Closed}
-use Rattle.search.specs.declared.Found.{Found}
-use Rattle.search.specs.declared.Found.TheVariants.{Yes, No, Spent}
-use Rattle.search.specs.contracts.Found
+use Rattle.search.specs.declared.Answer.TheVariants.{No}
 use Rattle.passes.specs.Sweep.{Pass, passed, try, sweep}
-use Rattle.search.specs.Forms.{pass_at, yes_or_no, bounded, later, ended_by}
+use Rattle.search.specs.Forms.{Found, pass_at, yes_or_no, bounded, later, ended_by}
 use Rattle.search.specs.Places.{Sound, parts_clauses}
 use Rattle.search.specs.Engine.{search_at, tried, Ready}
 use Rattle.search.proofs.BudgetLaws.{under, none_left, first_ends, second_wanted, second_room, second_ends}
@@ -37,25 +34,25 @@ use Rattle.search.proofs.SweepLaws.{Turned}
 
 module _ (file : List ℕ) (on : List Bool) (q : Parts) where
   abbrev first : List Clause
-  first = section file q.first_at q.first_count
+  first = section file q.first.at q.first.count
 
   abbrev lemmas : List Clause
-  lemmas = at_marks on (section file q.lemmas_at q.lemmas_count)
+  lemmas = at_marks on (section file q.lemmas.at q.lemmas.count)
 
   abbrev last : List Clause
-  last = section file q.last_at q.last_count
+  last = section file q.last.at q.last.count
 
   abbrev deny : List Clause
-  deny = denied (map (next q.added) (literals file q.denied_at q.denied_count))
+  deny = denied (map (next q.added) (literals file q.denied.at q.denied.count))
 
   pub parts_within : Sound file q → Within 512 (parts_clauses file on q)
   unfolding parts_clauses
   parts_within s =
       of_append (UpTo 512) first (lemmas ++ (last ++ deny)) s.first.within
       (of_append (UpTo 512) lemmas (last ++ deny)
-      (marks_within 512 on (section file q.lemmas_at q.lemmas_count) s.lemmas.within)
+      (marks_within 512 on (section file q.lemmas.at q.lemmas.count) s.lemmas.within)
       (of_append (UpTo 512) last deny s.last.within
-      (denied_within 512 (map (next q.added) (literals file q.denied_at q.denied_count)) s.deny.within)))
+      (denied_within 512 (map (next q.added) (literals file q.denied.at q.denied.count)) s.deny.within)))
 
   -- one part after another
   pub parts_swept : (p a b c d : Pass) → a ≡ sweep first p → b ≡ sweep lemmas a → c ≡ sweep last b → d ≡ sweep deny c
@@ -76,19 +73,12 @@ turned_ready cs v u Forced h t = absurd (h refl)
 
 -- where nothing is left to try, the search has ended
 pub ready_ended : (cs : List Clause) (v u : Setting) (left : ℕ) (n : Next) → ((l : Held) → n ≡ Try l → ⊥) → Ready cs v (pass_at n u)
-    → ended_by n ≡ bounded left (answer (search_at cs v))
+    → Ok (ended_by n) ≡ bounded left (answer (search_at cs v))
 unfolding answer yes_or_no
 ready_ended cs v u left Satisfied h r = sym (ap (λ (e : Ending). bounded left (answer e)) r ∙ under left _ (omega arith))
 ready_ended cs v u left Closed h r = sym (ap (λ (e : Ending). bounded left (answer e)) r ∙ under left _ (omega arith))
 ready_ended cs v u left Forced h r = absurd r
 ready_ended cs v u left (Try l) h r = absurd (h l refl)
-
--- an answer that is no `No`
-pub not_no : (f : Found) → (tag_of Found.the_type f ≡ 0) ⊎ (tag_of Found.the_type f ≡ 2) → (d : ℕ) → f ≡ No d → ⊥
-not_no (Yes e) h d x = let z : ◌≡◌ {A = ℕ} 0 1 = cc in omega arith
-not_no Spent h d x = let z : ◌≡◌ {A = ℕ} 0 1 = cc in omega arith
-not_no (No e) (inl t) d x = omega (arith, t)
-not_no (No e) (inr t) d x = omega (arith, t)
 
 -- Rule (d) at a setting that is ready, within a budget
 module _ (cs : List Clause) (within : Within 512 cs) (v u : Setting) (sized : length v ≡ 513) (l : Literal)
@@ -115,17 +105,17 @@ module _ (cs : List Clause) (within : Within 512 cs) (v u : Setting) (sized : le
     pub try_sized : (m : Literal) → length (with_literal u m) ≡ 513
     try_sized m = length_with u m ∙ u_sized
 
-    pub try_spent : (left : ℕ) → left ≡ 0 → Spent ≡ bounded left (answer (search_at cs v))
+    pub try_spent : (left : ℕ) → left ≡ 0 → Err (record {}) ≡ bounded left (answer (search_at cs v))
     try_spent left z = none_left (search_at cs) u l (search_at cs (with_literal u l)) true_found false_found left z ∙ as_tried left
 
     module _ (left : ℕ) (some_left : left ≡ 0 → ⊥) (f : Found) (first : f ≡ bounded (left - 1) (answer (search_at cs (with_literal u l)))) where
-      pub try_first : ((d : ℕ) → f ≡ No d → ⊥) → later 1 f ≡ bounded left (answer (search_at cs v))
+      pub try_first : ((d : ℕ) → f ≡ Ok (No d) → ⊥) → later 1 f ≡ bounded left (answer (search_at cs v))
       try_first h =
           first_ends (search_at cs) u l (search_at cs (with_literal u l)) true_found false_found left f (pos_of_ne-zero some_left) first h
           ∙ as_tried left
 
-      module _ (used : ℕ) (no : f ≡ No used) where
-        pub try_wanted : left - 1 ≡ used → Spent ≡ bounded left (answer (search_at cs v))
+      module _ (used : ℕ) (no : f ≡ Ok (No used)) where
+        pub try_wanted : left - 1 ≡ used → Err (record {}) ≡ bounded left (answer (search_at cs v))
         try_wanted h =
             second_wanted (search_at cs) u l (search_at cs (with_literal u l)) true_found false_found left used f (pos_of_ne-zero some_left)
             first no h

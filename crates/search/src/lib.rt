@@ -13,7 +13,7 @@ mod values; // settings by value
 ghost use Rattle.std.specs.Prelude.{◌≡◌};
 ghost use Rattle.meaning.specs.Rules.{asked};
 ghost use Rattle.format.specs.Section.{Placed, problem_at};
-ghost use Rattle.search.specs.Forms.{marks_at, question_of, Among, bounded};
+ghost use Rattle.search.specs.Forms.{marks_at, question_of, Among, bounded, more, Counts};
 
 // A partial setting, by variable number (0 stands idle): 0 unset, 1 true, 2 false.
 #[derive(Clone, Copy)]
@@ -35,12 +35,28 @@ pub enum Question {
     Safety,
 }
 
-// Satisfiable or unsatisfiable, with the decisions used, or a decision was wanted when the budget was used up.
+// Satisfiable or unsatisfiable, with the decisions used.
 #[derive(Clone, Copy)]
-pub enum Found {
+pub enum Answer {
     Yes(u64),
     No(u64),
-    Spent,
+}
+
+// A decision was wanted when the budget was used up.
+#[derive(Clone, Copy)]
+pub struct Spent;
+
+impl Answer {
+    // The same answer after so many decisions more.
+    pub fn after(self, used: u64) -> Answer
+        requires { Counts used self }
+        ensures { result ≡ more used self }
+    {
+        match self {
+            Answer::Yes(d) => Answer::Yes(used + d),
+            Answer::No(d) => Answer::No(used + d),
+        }
+    }
 }
 
 // What a pass over clauses has found: every one has a true literal; a literal to try; literals that were forced, and are set; a clause with only
@@ -53,26 +69,28 @@ enum Next {
     Closed,
 }
 
+// Where clauses stand in the file one behind another, or literals, and how many.
+#[derive(Clone, Copy)]
+struct Section {
+    at: usize,
+    count: usize,
+}
+
 // Where the clauses of a question stand in the file, in the question's order: records, the lemmas that are marked, records again, and the literals
 // that are denied, each with a number added to its variable.
 #[derive(Clone, Copy)]
 struct Parts {
-    first_at: usize,
-    first_count: usize,
-    lemmas_at: usize,
-    lemmas_count: usize,
-    last_at: usize,
-    last_count: usize,
-    denied_at: usize,
-    denied_count: usize,
+    first: Section,
+    lemmas: Section,
+    last: Section,
+    denied: Section,
     added: usize,
 }
 
 // Every question of a call is asked here: of a problem that was read from a file, for the lemmas that are marked, within the decisions left.
-pub fn ask(file: &[u8], p: Problem, s: Marks, q: Question, left: u64) -> Found
+pub fn ask(file: &[u8], p: Problem, s: Marks, q: Question, left: u64) -> Result<Answer, Spent>
     requires { Placed file.now p × Among p.k q }
     ensures { result ≡ bounded left (asked (problem_at file.now p) (marks_at p.k s) (question_of q)) }
 {
-    let parts = parts_of(file, p, q);
-    decide(file, &s.on, parts, Setting::none_set(), left)
+    decide(file, &s.on, parts_of(file, p, q), Setting::none_set(), left)
 }

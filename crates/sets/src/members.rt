@@ -1,4 +1,5 @@
-// Sets of positions by value: none, all, one more, one less, how many.
+// Sets of positions by value: none, all, one more, one less, how many. No methods of `Marks`: an impl has to stand in `search`, below the laws
+// of sets that they are proved by.
 ghost use Rattle.std.specs.Prelude.{◌≡◌, ◌≤◌, ◌<◌, replicate, true, false};
 ghost use Rattle.meaning.specs.Rules.{without, with_position, size, contains};
 ghost use Rattle.sets.specs.Asks.{marks_at};
@@ -44,13 +45,5 @@ pub fn count(s: Marks, k: usize) -> usize
     requires { k ≤ 128 }
     ensures { (result ≡ size (marks_at k s)) × (result ≤ 128) }
 {
-    let mut n: usize = 0;
-    let mut d: usize = 0;
-    while d < k {
-        if s.on[d] {
-            n += 1;
-        }
-        d += 1;
-    }
-    n
+    s.on[..k].iter().filter(|on| **on).count()
 }

@@ -28,16 +28,16 @@ pub returns-then-only : goal.returns-then-only
 returns-then-only c =
     let s = c in
     let at = c.loop-d in
-    (lowest_here _ _ at.d (here (goal.at.returns-then-only c).Start at.d (omega arith)) (tested (goal.at.returns-then-only c).After-only ∙ c.if-only.true) at.invariant.1, omega arith)
+    (lowest_here _ _ at.d (here (goal.at.returns-then-only c).Start at.d (omega arith)) (tested (goal.at.returns-then-only c).After-only ∙ c.if-only.true) at.invariant, omega arith)
 
 pub loop-d-preserved : goal.loop-d-preserved
 loop-d-preserved c =
     let s = c in
     let at = c.loop-d in
-    (omega arith, lowest_on _ _ at.d (here (goal.at.loop-d-preserved c).Start at.d (omega arith)) (tested (goal.at.loop-d-preserved c).After-only ∙ c.if-only.false) at.invariant.1)
+    lowest_on _ _ at.d (here (goal.at.loop-d-preserved c).Start at.d (omega arith)) (tested (goal.at.loop-d-preserved c).After-only ∙ c.if-only.false) at.invariant
 
 pub returns : goal.returns
 returns c =
     let a = c.args in
     let long = marks_long a.k a.a (search rules) c.requires in
-    (lowest_none _ _ c.loop-d.d (omega (arith, long)) c.loop-d.invariant.1, tt)
+    (lowest_none _ _ c.loop-d.d (omega (arith, long)) c.loop-d.invariant, tt)
