@@ -19,8 +19,8 @@ returns c =
       | in-10 w ↦ rw w.page-is (puts_is (if_spent r k marks (λ e. omega arith) w.in-10.is) w.put_listed-in-10.ensures)
       | in-11 w ↦ rw w.page-is (puts_is (if_none r k marks (λ e. omega arith) (λ e. omega arith) w.in-11.is) w.put_listed-in-11.ensures)
       | in-12 w ↦
-        rw w.page-is (puts_is (if_room r k marks (λ e. omega arith) (λ e. omega arith) (λ e. omega arith) w.in-12.is) w.put_listed-in-12.ensures)
+          rw w.page-is (puts_is (if_room r k marks (λ e. omega arith) (λ e. omega arith) (λ e. omega arith) w.in-12.is) w.put_listed-in-12.ensures)
       | in_default w ↦
-        rw w.page-is (puts_is (if_refused r k marks (λ e. omega arith) (λ e. omega arith) (λ e. omega arith) (λ e. omega arith)) w.put_line.ensures)
+          rw w.page-is (puts_is (if_refused r k marks (λ e. omega arith) (λ e. omega arith) (λ e. omega arith) (λ e. omega arith)) w.put_line.ensures)
     ] in
     puts_out c.new-page.ensures wrote (search (rules, wrote.lent, c.new-page.ensures.lent))

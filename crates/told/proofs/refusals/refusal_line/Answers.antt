@@ -14,10 +14,10 @@ returns c =
     let wrote : Puts (refusal_line a.job a.file.now (report_of a.r) a.budget a.space) c.new-page.result c.if-r-lt9.page =
     elim c.if-r-lt9.branch [
       | then-r-lt9 w ↦
-        rw (w.page-is, lt-ltb a.r.number 9 w.if-r-lt9.true, ← w.fault_of.ensures)
-        (puts_both c.put_head.ensures (puts_both c.put_where.ensures w.put_fault.ensures))
+          rw (w.page-is, lt-ltb a.r.number 9 w.if-r-lt9.true, ← w.fault_of.ensures)
+          (puts_both c.put_head.ensures (puts_both c.put_where.ensures w.put_fault.ensures))
       | else-r-lt9 w ↦
-        rw (w.page-is, le-ltb a.r.number 9 w.if-r-lt9.false)
-        (puts_both c.put_head.ensures (puts_both c.put_where.ensures w.put_reason.ensures))
+          rw (w.page-is, le-ltb a.r.number 9 w.if-r-lt9.false)
+          (puts_both c.put_head.ensures (puts_both c.put_where.ensures w.put_reason.ensures))
     ] in
     puts_out c.new-page.ensures wrote (search (rules, wrote.lent, c.new-page.ensures.lent))

@@ -14,10 +14,10 @@ returns c =
     let wrote : Puts (lemma_line a.file.now a.position) c.new-page.result c.match-read_problem.page =
     elim c.match-read_problem.branch [
       | in-Accepted w ↦
-        let e = sym (ap (reading_of_answer a.file.now) w.in-Accepted.is) ∙ c.read_problem.ensures.0 in
-        rw w.page-is (puts_both c.put_filled.ensures (puts_is (ap (λ (r : Reading). lemma_text r a.position) e) w.put_lemma.ensures))
+          let e = sym (ap (reading_of_answer a.file.now) w.in-Accepted.is) ∙ c.read_problem.ensures.0 in
+          rw w.page-is (puts_both c.put_filled.ensures (puts_is (ap (λ (r : Reading). lemma_text r a.position) e) w.put_lemma.ensures))
       | in-Refused w ↦
-        let e = sym (ap (reading_of_answer a.file.now) w.in-Refused.is) ∙ c.read_problem.ensures.0 in
-        rw w.page-is (puts_both c.put_filled.ensures (puts_is (ap (λ (r : Reading). lemma_text r a.position) e) w.put_all.ensures))
+          let e = sym (ap (reading_of_answer a.file.now) w.in-Refused.is) ∙ c.read_problem.ensures.0 in
+          rw w.page-is (puts_both c.put_filled.ensures (puts_is (ap (λ (r : Reading). lemma_text r a.position) e) w.put_all.ensures))
     ] in
     puts_out c.new-page.ensures wrote (search (rules, wrote.lent, c.new-page.ensures.lent))

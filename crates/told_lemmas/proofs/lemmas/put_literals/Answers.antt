@@ -1,6 +1,5 @@
 use Rattle.std.proofs.Common.{arith, ap, ◌∙◌, ◌≡◌, ◌+◌, ◌*◌, ◌-◌}
 use Rattle.text.specs.PageLaws.{appends_is}
-use Rattle.text.specs.Pages.{left_all}
 use Rattle.told_lemmas.specs.Lemmas.{literal_text}
 use Rattle.told_lemmas.specs.LemmaLaws.{literal_more, literals_done}
 use Rattle.told_lemmas.proofs.lemmas.put_literals.Goals as goal

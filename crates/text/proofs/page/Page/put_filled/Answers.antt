@@ -3,7 +3,6 @@ use Rattle.std.specs.Prelude.{Option}
 use Rattle.std.specs.Option.{unwrap_or}
 use Rattle.text.specs.Numbers.{decimal}
 use Rattle.text.specs.PageLaws.{appends_is}
-use Rattle.text.specs.Pages.{Left}
 use Rattle.text.specs.Filled.{number_more, other_more, filled_done}
 use Rattle.text.proofs.Taken.{taken}
 use Rattle.text.proofs.page.Page.put_filled.Goals as goal
@@ -16,15 +15,15 @@ loop-byte-preserved c =
     let more : l.byte-index < length c.args.form.now = omega arith in
     elim c.if-byte-eq35.branch [
       | then-byte-eq35 w ↦
-        let t = taken _ _ _ w.next.ensures.steps l.invariant.0 in
-        let number = w.unwrap_or.ensures ∙ ap (λ (o : Option ℕ). unwrap_or o 0) w.copied.ensures ∙ t.first in
-        rw (w.self-is, w.left-is, t.second, t.third, t.fourth) (
-          t.few,
-          record {
-            bytes = number_more _ _ _ _ _ _ l.byte-index _ _ _ _ _ more w.if-byte-eq35.true left.bytes (appends_is (ap decimal number) w.put_number.ensures.bytes);
-            lent = w.put_number.ensures.lent ∙ left.lent;
-          },
-        )
+          let t = taken _ _ _ w.next.ensures.steps l.invariant.0 in
+          let number = w.unwrap_or.ensures ∙ ap (λ (o : Option ℕ). unwrap_or o 0) w.copied.ensures ∙ t.first in
+          rw (w.self-is, w.left-is, t.second, t.third, t.fourth) (
+            t.few,
+            record {
+              bytes = number_more _ _ _ _ _ _ l.byte-index _ _ _ _ _ more w.if-byte-eq35.true left.bytes (appends_is (ap decimal number) w.put_number.ensures.bytes);
+              lent = w.put_number.ensures.lent ∙ left.lent;
+            },
+          )
       | else-byte-eq35 w ↦ rw (w.self-is, w.left-is) (
         l.invariant.0,
         record {

@@ -7,4 +7,4 @@ use Rattle.text.proofs.page.Page.put_filled.Given as goal
 abbrev pub invariant-loop-byte : goal.invariant-loop-byte
 invariant-loop-byte l = (length l.left.rest.now ≤ 3)
     × Left (filled l.form (get_or l.numbers 0 0) (get_or l.numbers 1 0) (get_or l.numbers 2 0)) l.initial.self
-      (filled (drop l.byte-index l.form) (get_or l.left.rest.now 0 0) (get_or l.left.rest.now 1 0) (get_or l.left.rest.now 2 0)) l.self
+    (filled (drop l.byte-index l.form) (get_or l.left.rest.now 0 0) (get_or l.left.rest.now 1 0) (get_or l.left.rest.now 2 0)) l.self
