@@ -22,7 +22,7 @@ fn put_head(page: &mut Page<'_>, number: u32, place: usize)
     page.put_filled(b"refusal #", &[number as u64])
 }
 
-// Which clause: its kind, and its position among those of its kind.
+// Which clause: its kind, which is whatever number stands in the record's head, and its position among those of its kind.
 fn put_clause_place(page: &mut Page<'_>, kind: usize, position: usize)
     ensures { Puts (clause_place kind position) page.old page.new }
 {
