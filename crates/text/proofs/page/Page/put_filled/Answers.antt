@@ -1,12 +1,20 @@
-use Rattle.std.proofs.Common.{arith, ap, ◌∙◌, ℕ, ◌<◌, length}
+use Rattle.std.proofs.Common.{arith, ap, ◌∙◌, ◌≡◌, ℕ, ◌<◌, min, length, take, length-take}
 use Rattle.std.specs.Prelude.{Option}
 use Rattle.std.specs.Option.{unwrap_or}
 use Rattle.text.specs.Numbers.{decimal}
 use Rattle.text.specs.PageLaws.{appends_is}
+use Rattle.text.specs.Pages.{left_all}
 use Rattle.text.specs.Filled.{number_more, other_more, filled_done}
-use Rattle.text.proofs.Taken.{taken}
+use Rattle.text.proofs.Taken.{taken, first_three}
 use Rattle.text.proofs.page.Page.put_filled.Goals as goal
 use Rattle.text.proofs.page.Page.put_filled.Goals.{then-byte-eq35, else-byte-eq35}
+
+pub loop-byte-init : goal.loop-byte-init
+loop-byte-init c =
+    let ns = c.args.numbers.now in
+    let three : c.iter-left.result.rest.now ≡ take (min (length ns) 3) ns = c.iter-left.ensures.rest ∙ ap (λ (n : ℕ). take n ns) c.min.ensures in
+    rw (three, first_three ns 0 (omega arith), first_three ns 1 (omega arith), first_three ns 2 (omega arith))
+    (omega (arith, length-take {A = ℕ}), left_all _ _)
 
 pub loop-byte-preserved : goal.loop-byte-preserved
 loop-byte-preserved c =
