@@ -1,5 +1,5 @@
-// Writing on a page, part after part. Printing is not `write!` of `Display` values: of those std promises what was written only where `write!` gives
-// Ok, and nothing promises Ok, while a page holds its text whatever fits.
+// Writing on a page, part after part.
+// Not `write!` of `Display` values: std says what it wrote only where it gives Ok, which nothing promises; a page takes every text.
 ghost use Rattle.std.specs.Prelude.{[], ◌∷◌};
 ghost use Rattle.text.specs.Pages.{Fresh, Puts};
 ghost use Rattle.text.specs.Numbers.{decimal};
