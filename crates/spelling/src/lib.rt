@@ -5,4 +5,4 @@ mod compare;
 mod number;
 
 pub use compare::{is_circuit, is_option, same};
-pub use number::{Number, read_number};
+pub use number::{NumberFault, read_number};
