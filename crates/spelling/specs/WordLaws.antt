@@ -1,5 +1,5 @@
 -- Laws of words: the test says that they are the same; a byte more of a value.
-use Rattle.std.specs.Prelude.{ℕ, ◌+◌, ◌*◌, ◌-◌, ◌≤◌, ◌<◌, ◌≡◌, refl, Bool, true, false, cond, List, [], ◌∷◌, length}
+use Rattle.std.specs.Prelude.{ℕ, ◌+◌, ◌*◌, ◌-◌, ◌≤◌, ◌<◌, ◌≡◌, refl, true, List, [], ◌∷◌, length}
 use Rattle.std.proofs.Common.{sym, ◌∙◌, arith, add-one, drop-cons}
 use Rattle.std.proofs.Math.Path.{ap}
 use Rattle.std.proofs.Math.ListN.{drop, get_or}
@@ -35,10 +35,3 @@ pub value_grows : (v : ℕ) (w : List ℕ) → v ≤ value_after v w
 unfolding value_after
 value_grows v [] = omega arith
 value_grows v (b ∷ w) = omega (arith, value_grows (10 * v + (b - 48)) w)
-
--- what is chosen where the test is known
-pub chosen : {A : Type 0} (b : Bool) (x y : A) → b ≡ true → cond b x y ≡ x
-chosen b x y e = rw e
-
-pub passed : {A : Type 0} (b : Bool) (x y : A) → b ≡ false → cond b x y ≡ y
-passed b x y e = rw e

@@ -1,13 +1,6 @@
-// Words compared, byte by byte.
+// How a word or a file starts.
 ghost use Rattle.std.specs.Prelude.{◌≡◌};
-ghost use Rattle.spelling.specs.Words.{same, is_option, is_circuit};
-
-// Whether two words are the same.
-pub fn same(word: &[u8], other: &[u8]) -> bool
-    ensures { result ≡ same word.now other.now }
-{
-    word == other
-}
+ghost use Rattle.spelling.specs.Words.{is_option, is_circuit};
 
 // Whether a word starts with two dashes.
 pub fn is_option(word: &[u8]) -> bool
