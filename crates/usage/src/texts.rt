@@ -8,26 +8,22 @@ ghost use Rattle.usage.specs.Texts.{not_opened, not_read, circuit_alone, version
 use text::{put, put_all};
 use words::{Fault, Order};
 
+#[tactic(auto, unfolding(crate::specs::Texts::shown_byte))]
 fn shown_byte(b: u8) -> u8
     ensures { result ≡ shown_byte b }
 {
-    if b < 32 {
-        return b'?';
+    match b {
+        32..=126 => b,
+        _ => b'?',
     }
-    if 126 < b {
-        return b'?';
-    }
-    b
 }
 
 fn put_shown(out: &mut [u8], at: usize, bytes: &[u8]) -> usize
     ensures { Appends (map shown_byte bytes.now) out.old at out.new result }
 {
     let mut next = at;
-    let mut i: usize = 0;
-    while i < bytes.len() {
-        next = put(out, next, shown_byte(bytes[i]));
-        i += 1;
+    for b in bytes {
+        next = put(out, next, shown_byte(*b));
     }
     next
 }
@@ -72,10 +68,11 @@ fn put_number_fault(out: &mut [u8], named: usize, word: &[u8], why: &[u8]) -> us
 pub fn fault_line(o: Order, word: &[u8], out: &mut [u8]) -> usize
     ensures { Holds out.old (fault_text o word.now) out.new result }
 {
-    let fault = o.fault;
+    let Some(fault) = o.fault else {
+        return 0;
+    };
     let named = o.named;
     match fault {
-        Fault::Nothing => 0,
         Fault::Unknown => put_around(out, b"trim: unknown word ", word, b": say trim --help\n"),
         Fault::Superfluous => put_around(
             out,
