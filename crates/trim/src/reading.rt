@@ -1,5 +1,5 @@
 // A file: opened, and read whole. A problem file is handed to the job.
-ghost use Rattle.std.specs.Prelude.{◌≡◌, ◌+◌, ◌≤◌, length, IfOk};
+ghost use Rattle.std.specs.Prelude.{◌≡◌, ◌≤◌, length, IfOk};
 
 use crate::page::Stream;
 use crate::{arg, page, telling};
@@ -22,13 +22,6 @@ pub fn word_room() -> [u8; 65536]
     [0; 65536]
 }
 
-// More than buf has.
-fn failed(buf: &[u8]) -> usize
-    ensures { result ≡ length buf.now + 1 }
-{
-    buf.len() + 1
-}
-
 // Reads once, and answers how many bytes that were.
 fn read_once<R: Read>(from: &mut R, buf: &mut [u8]) -> io::Result<usize>
     ensures { IfOk result (λ n. n ≤ length buf.new) }
@@ -37,7 +30,9 @@ fn read_once<R: Read>(from: &mut R, buf: &mut [u8]) -> io::Result<usize>
 }
 
 // Reads until buf is full or the input ends, and answers how many bytes that were.
-fn read_all<R: Read>(from: &mut R, buf: &mut [u8]) -> io::Result<usize> {
+fn read_all<R: Read>(from: &mut R, buf: &mut [u8]) -> io::Result<usize>
+    ensures { IfOk result (λ n. n ≤ length buf.new) }
+{
     let mut done: usize = 0;
     while done < buf.len() {
         let n = read_once(from, &mut buf[done..])?;
@@ -61,13 +56,18 @@ fn tell_not_read(rt: &HostRuntime, name: &[u8], error: &io::Error) {
     page::fail(rt, &page, end, error);
 }
 
-// Reads a file that is open. What fails is told, and then the answer is more than buf has.
-fn read_told<R: Read>(rt: &HostRuntime, name: &[u8], from: &mut R, buf: &mut [u8]) -> usize {
+// Reads a file that is open. What fails is told, and then there is no text.
+fn read_told<'a, R: Read>(
+    rt: &HostRuntime,
+    name: &[u8],
+    from: &mut R,
+    buf: &'a mut [u8],
+) -> Option<&'a [u8]> {
     match read_all(from, buf) {
-        Ok(n) => n,
+        Ok(n) => Some(&buf[..n]),
         Err(error) => {
             tell_not_read(rt, name, &error);
-            failed(buf)
+            None
         }
     }
 }
@@ -80,9 +80,8 @@ fn open(rt: &HostRuntime, name: &[u8]) -> io::Result<File> {
     }
 }
 
-// Reads the file of a name, and answers how many bytes that were; a dash is standard input. What fails is told, and then the answer is more
-// than buf has.
-pub fn read_named(rt: &HostRuntime, name: &[u8], buf: &mut [u8]) -> usize {
+// Reads the file of a name; a dash is standard input. What fails is told, and then there is no text.
+pub fn read_named<'a>(rt: &HostRuntime, name: &[u8], buf: &'a mut [u8]) -> Option<&'a [u8]> {
     if words::is_input(name) {
         return read_told(rt, name, &mut rt.stdin(), buf);
     }
@@ -90,7 +89,7 @@ pub fn read_named(rt: &HostRuntime, name: &[u8], buf: &mut [u8]) -> usize {
         Ok(mut file) => read_told(rt, name, &mut file, buf),
         Err(error) => {
             tell_not_opened(rt, name, &error);
-            failed(buf)
+            None
         }
     }
 }
@@ -98,7 +97,7 @@ pub fn read_named(rt: &HostRuntime, name: &[u8], buf: &mut [u8]) -> usize {
 fn tell_circuit_alone(rt: &HostRuntime, name: &[u8]) {
     let mut page = page::line();
     let end = usage::circuit_alone(name, &mut page);
-    page::show(rt, Stream::Errors, &page, end);
+    let _shown = page::show(rt, Stream::Errors, &page, end);
 }
 
 // A circuit is no problem file.
@@ -110,21 +109,12 @@ fn work_file(rt: &HostRuntime, order: Order, name: &[u8], file: &[u8]) {
     telling::answer(rt, order, file);
 }
 
-fn work_on(rt: &HostRuntime, order: Order, name: &[u8], file: &[u8], n: usize) {
-    if n <= file.len() {
-        work_file(rt, order, name, &file[..n]);
-    }
-}
-
-fn work_named(rt: &HostRuntime, order: Order, name: &[u8]) {
-    let mut file = room();
-    let n = read_named(rt, name, &mut file);
-    work_on(rt, order, name, &file, n);
-}
-
 // The job on the problem file that a word names.
 pub fn work(rt: &HostRuntime, order: Order, i: usize) {
     let mut buf = word_room();
-    let n = arg(rt, i, &mut buf);
-    work_named(rt, order, &buf[..n]);
+    let name = arg(rt, i, &mut buf);
+    let mut room = room();
+    if let Some(file) = read_named(rt, name, &mut room) {
+        work_file(rt, order, name, file);
+    }
 }
