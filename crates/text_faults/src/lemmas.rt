@@ -28,10 +28,7 @@ fn last_cause(text: &[u8], p: usize, x: Number, j: usize) -> Cause
     if x.end == x.start {
         return Cause::Word(j);
     }
-    if p < x.start {
-        return Cause::NoZero;
-    }
-    if 0 < x.value {
+    if p < x.start || 0 < x.value {
         return Cause::NoZero;
     }
     Cause::Nothing
@@ -45,18 +42,16 @@ fn words_cause(text: &[u8], at: usize, latches: usize) -> Cause
     ensures { result ≡ words_cause latches 1 (words (line_at text.now at)) }
 {
     let mut p = at;
+    // The words are counted by hand: a `for` over their numbers would need an end that the walk never comes to.
     let mut j: usize = 1;
     loop {
         let x = digits_at(text, p);
         let end = x.end;
         let b = text[end];
-        if b == 10 {
+        if b == b'\n' {
             return last_cause(text, p, x, j);
         }
-        if b != 32 {
-            return Cause::Word(j);
-        }
-        if end == x.start {
+        if b != b' ' || end == x.start {
             return Cause::Word(j);
         }
         if x.value == 0 {
@@ -75,10 +70,7 @@ pub fn lemma_cause(text: &[u8], at: usize, latches: usize) -> Cause
     requires { latches < 18446744073709551610 }
     ensures { result ≡ lemma_cause latches text.now at }
 {
-    if text.len() <= at {
-        return Cause::Open;
-    }
-    if text.len() <= line_end(text, at) {
+    if text.len() <= at || text.len() <= line_end(text, at) {
         return Cause::Open;
     }
     words_cause(text, at, latches)

@@ -33,7 +33,7 @@ fn spaces(text: &[u8], at: usize) -> usize
     ensures { result ≡ count_of 32 (line_at text.now at) }
 {
     let end = line_end(text, at);
-    count_byte(&text[at..end], 32)
+    count_byte(&text[at..end], b' ')
 }
 
 // The first lemma of more than 64 literals; where there is none, the clauses are what is left.
@@ -55,7 +55,7 @@ fn long_lemma(text: &[u8]) -> Limit
 fn lemmas_limit(lemmas: &[u8]) -> Limit
     ensures { result ≡ lemmas_limit lemmas.now }
 {
-    let met = count_byte(lemmas, 10);
+    let met = count_byte(lemmas, b'\n');
     if 128 < met {
         return Limit::Lemmas(met);
     }
@@ -66,13 +66,11 @@ fn lemmas_limit(lemmas: &[u8]) -> Limit
 fn bads_limit(bads: usize, lemmas: &[u8]) -> Limit
     ensures { result ≡ bads_limit bads lemmas.now }
 {
-    if bads == 0 {
-        return Limit::NoBad;
+    match bads {
+        0 => Limit::NoBad,
+        1 => lemmas_limit(lemmas),
+        _ => Limit::Bads(bads),
     }
-    if bads != 1 {
-        return Limit::Bads(bads);
-    }
-    lemmas_limit(lemmas)
 }
 
 // Outputs and bad literals, then the lemmas.
@@ -96,17 +94,10 @@ fn width_limit(text: &[u8], h: Header, lemmas: &[u8]) -> Limit
     requires { Parts text.now h }
     ensures { result ≡ width_limit (header_at text.now h) lemmas.now }
 {
-    let i = h.i;
-    let o = h.o;
-    let a = h.a;
-    let b = h.b;
-    if 320 < i.value {
-        return Limit::Width(i.value, a.value);
+    if 320 < h.i.value || 320 - h.i.value < h.a.value {
+        return Limit::Width(h.i.value, h.a.value);
     }
-    if 320 - i.value < a.value {
-        return Limit::Width(i.value, a.value);
-    }
-    property_limit(o.value, b.value, lemmas)
+    property_limit(h.o.value, h.b.value, lemmas)
 }
 
 // The latches, then the rest.
