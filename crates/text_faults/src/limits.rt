@@ -24,7 +24,6 @@ pub enum Limit {
     Lemmas(usize), // more than 128
     LongLemma(usize, usize), // the lemma of this line has so many literals: more than 64
     Clauses, // none of these: more than 4,096 clauses
-    Nothing, // no header
 }
 
 // How many spaces a line has: as many as literals, where it is a lemma.
@@ -115,19 +114,20 @@ fn header_limit(text: &[u8], h: Header, lemmas: &[u8]) -> Limit
     width_limit(text, h, lemmas)
 }
 
-// The first limit that the texts are over, in the order of the list; the clauses, which are not counted here, where no other is.
-pub fn limit_of(text: &[u8], lemmas: &[u8]) -> Limit
+// The first limit that the texts are over, in the order of the list; the clauses, which are not counted here, where no other is; none, where
+// there is no header.
+pub fn limit_of(text: &[u8], lemmas: &[u8]) -> Option<Limit>
     ensures { result ≡ limit_of text.now lemmas.now }
 {
     if 65536 < text.len() {
-        return Limit::LongCircuit;
+        return Some(Limit::LongCircuit);
     }
     if 65536 < lemmas.len() {
-        return Limit::LongLemmas;
+        return Some(Limit::LongLemmas);
     }
     let h = read_header(text);
     if !h.right {
-        return Limit::Nothing;
+        return None;
     }
-    header_limit(text, h, lemmas)
+    Some(header_limit(text, h, lemmas))
 }

@@ -130,9 +130,17 @@ pub fn put_cause(out: &mut [u8], at: usize, text: &[u8], cause: Cause) -> usize
 }
 
 // Why a line of lemmas is refused, over so many latches.
-pub fn put_lemma_cause(out: &mut [u8], at: usize, latches: usize, cause: lemmas::Cause) -> usize
+pub fn put_lemma_cause(
+    out: &mut [u8],
+    at: usize,
+    latches: usize,
+    cause: Option<lemmas::Cause>,
+) -> usize
     ensures { Appends (lemma_cause_text latches cause) out.old at out.new result }
 {
+    let Some(cause) = cause else {
+        return put_all(out, at, b"no lemma\n");
+    };
     match cause {
         lemmas::Cause::Open => put_all(
             out,
@@ -168,6 +176,5 @@ pub fn put_lemma_cause(out: &mut [u8], at: usize, latches: usize, cause: lemmas:
             at,
             b"the line does not end with a 0 without a sign\n",
         ),
-        lemmas::Cause::Nothing => put_all(out, at, b"no lemma\n"),
     }
 }

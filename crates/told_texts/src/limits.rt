@@ -8,24 +8,13 @@ use text_faults::limits::Limit;
 use usage::put_word;
 
 // Whether a limit is one of the lemma text.
-fn of_lemmas(limit: Limit) -> bool
+fn of_lemmas(limit: Option<Limit>) -> bool
     ensures { result ≡ of_lemmas limit }
 {
-    match limit {
-        Limit::LongCircuit => false,
-        Limit::LongLemmas => true,
-        Limit::NoLatch => false,
-        Limit::Latches(_) => false,
-        Limit::Width(_, _) => false,
-        Limit::NoBad => false,
-        Limit::Outputs(_) => false,
-        Limit::Bads(_) => false,
-        Limit::Both(_, _) => false,
-        Limit::Lemmas(_) => true,
-        Limit::LongLemma(_, _) => true,
-        Limit::Clauses => false,
-        Limit::Nothing => false,
-    }
+    matches!(
+        limit,
+        Some(Limit::LongLemmas | Limit::Lemmas(_) | Limit::LongLemma(_, _))
+    )
 }
 
 // Which text.
@@ -41,9 +30,12 @@ fn put_head(out: &mut [u8], of: bool, circuit: &[u8], lemmas: &[u8]) -> usize
 }
 
 // What is over the limit.
-fn put_limit(out: &mut [u8], at: usize, limit: Limit) -> usize
+fn put_limit(out: &mut [u8], at: usize, limit: Option<Limit>) -> usize
     ensures { Appends (limit_text limit) out.old at out.new result }
 {
+    let Some(limit) = limit else {
+        return put_all(out, at, b": no limit that this program knows\n");
+    };
     match limit {
         Limit::LongCircuit => put_all(out, at, b": more than 65536 bytes\n"),
         Limit::LongLemmas => put_all(out, at, b": more than 65536 bytes\n"),
@@ -114,12 +106,11 @@ fn put_limit(out: &mut [u8], at: usize, limit: Limit) -> usize
             at,
             b": more than 4096 clauses in Init, Tr, Bad and the lemmas together: each constraint (assume) adds one to Tr and one to Bad, each gate up to three to both; have fewer of them\n",
         ),
-        Limit::Nothing => put_all(out, at, b": no limit that this program knows\n"),
     }
 }
 
 // 14 on a line, with the text that is over the limit, by its name.
-pub fn limit_line(circuit: &[u8], lemmas: &[u8], limit: Limit, out: &mut [u8]) -> usize
+pub fn limit_line(circuit: &[u8], lemmas: &[u8], limit: Option<Limit>, out: &mut [u8]) -> usize
     ensures { Holds out.old (limit_line circuit.now lemmas.now limit) out.new result }
 {
     let at = put_head(out, of_lemmas(limit), circuit, lemmas);

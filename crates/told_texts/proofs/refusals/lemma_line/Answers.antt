@@ -2,6 +2,7 @@
 use Prim.Native.Nat.{ℕ}
 use mathlib.Core.Path.{ap, ◌∙◌}
 use mathlib.Core.List.{◌++◌}
+use Rattle.std.specs.Prelude.{Option}
 use Rattle.text.specs.Ascii.{ascii}
 use Rattle.text.specs.PageLaws.{from_start, appends_is, appends_both}
 use Rattle.text_faults.specs.declared.lemmas.Cause.{Cause}
@@ -17,7 +18,7 @@ returns c =
     let head = place_text t a.place (ascii "lemmas ") a.name.now in
     let after = line_shown t a.place in
     let is =
-    ap (λ (x : Cause). head ++ (ascii ": " ++ (lemma_cause_text c.latches_of-latches.result x ++ after))) c.lemma_cause-cause.ensures
+    ap (λ (x : Option Cause). head ++ (ascii ": " ++ (lemma_cause_text c.latches_of-latches.result x ++ after))) c.lemma_cause-cause.ensures
     ∙ ap (λ (l : ℕ). head ++ (ascii ": " ++ lemma_text l t a.place after)) c.latches_of-latches.ensures.0 in
     from_start
     (appends_is is
