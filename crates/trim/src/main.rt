@@ -42,7 +42,7 @@ pub fn arg<'a>(rt: &HostRuntime, i: usize, buf: &'a mut [u8]) -> &'a [u8] {
 
 // The words in turn, up to the first that is at fault. Word 0 is the program's own name.
 fn read_words(rt: &HostRuntime) -> Given {
-    let mut buf = reading::word_room();
+    let mut buf = page::room::<{ reading::WORD }>();
     let mut order = words::begin();
     let mut file = None;
     let mut lemmas = None;
@@ -70,21 +70,21 @@ fn read_words(rt: &HostRuntime) -> Given {
 }
 
 fn tell_fault(rt: &HostRuntime, order: Order, i: usize) {
-    let mut buf = reading::word_room();
+    let mut buf = page::room::<{ reading::WORD }>();
     let word = arg(rt, i, &mut buf);
-    let mut page = page::line();
+    let mut page = page::room::<{ page::LINE }>();
     let end = usage::fault_line(order, word, &mut page);
     let _shown = page::show(rt, Stream::Errors, &page, end);
 }
 
 fn tell_help(rt: &HostRuntime) {
-    let mut page = page::help_room();
+    let mut page = page::room::<{ page::HELP }>();
     let end = usage::help_text(&mut page);
     let _shown = page::show(rt, Stream::Output, &page, end);
 }
 
 fn tell_version(rt: &HostRuntime) {
-    let mut page = page::line();
+    let mut page = page::room::<{ page::LINE }>();
     let end = usage::version_line(&mut page);
     let _shown = page::show(rt, Stream::Output, &page, end);
 }

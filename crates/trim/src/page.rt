@@ -16,18 +16,16 @@ pub enum Stream {
     Errors,
 }
 
-// Room for a line. The `ensures` gives only the length, which lending the array as a slice needs.
-pub fn line() -> [u8; 1024]
-    ensures { 1024 ≡ length result }
-{
-    [0; 1024]
-}
+// How long a line may be, and the page of help.
+pub const LINE: usize = 1024;
 
-// Room for the page of help.
-pub fn help_room() -> [u8; 4096]
-    ensures { 4096 ≡ length result }
+pub const HELP: usize = 4096;
+
+// Room for so many bytes. The `ensures` gives only the length, which lending the array as a slice needs.
+pub fn room<const N: usize>() -> [u8; N]
+    ensures { N ≡ length result }
 {
-    [0; 4096]
+    [0; N]
 }
 
 fn write_to(rt: &HostRuntime, stream: Stream, text: &[u8]) -> io::Result<()> {

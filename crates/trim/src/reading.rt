@@ -9,18 +9,10 @@ use std::io::Read;
 use words::Order;
 
 // One byte more than a file may have, so that a longer one is refused and not cut.
-fn room() -> [u8; 65537]
-    ensures { 65537 ≡ length result }
-{
-    [0; 65537]
-}
+const FILE: usize = 65537;
 
 // Room for a word: a longer one reads as an empty one.
-pub fn word_room() -> [u8; 65536]
-    ensures { 65536 ≡ length result }
-{
-    [0; 65536]
-}
+pub const WORD: usize = 65536;
 
 // Reads once, and answers how many bytes that were.
 fn read_once<R: Read>(from: &mut R, buf: &mut [u8]) -> io::Result<usize>
@@ -45,13 +37,13 @@ fn read_all<R: Read>(from: &mut R, buf: &mut [u8]) -> io::Result<usize>
 }
 
 fn tell_not_opened(rt: &HostRuntime, name: &[u8], error: &io::Error) {
-    let mut page = page::line();
+    let mut page = page::room::<{ page::LINE }>();
     let end = usage::not_opened(name, &mut page);
     page::fail(rt, &page, end, error);
 }
 
 fn tell_not_read(rt: &HostRuntime, name: &[u8], error: &io::Error) {
-    let mut page = page::line();
+    let mut page = page::room::<{ page::LINE }>();
     let end = usage::not_read(name, &mut page);
     page::fail(rt, &page, end, error);
 }
@@ -95,7 +87,7 @@ pub fn read_named<'a>(rt: &HostRuntime, name: &[u8], buf: &'a mut [u8]) -> Optio
 }
 
 fn tell_circuit_alone(rt: &HostRuntime, name: &[u8]) {
-    let mut page = page::line();
+    let mut page = page::room::<{ page::LINE }>();
     let end = usage::circuit_alone(name, &mut page);
     let _shown = page::show(rt, Stream::Errors, &page, end);
 }
@@ -111,9 +103,9 @@ fn work_file(rt: &HostRuntime, order: Order, name: &[u8], file: &[u8]) {
 
 // The job on the problem file that a word names.
 pub fn work(rt: &HostRuntime, order: Order, i: usize) {
-    let mut buf = word_room();
+    let mut buf = page::room::<WORD>();
     let name = arg(rt, i, &mut buf);
-    let mut room = room();
+    let mut room = page::room::<FILE>();
     if let Some(file) = read_named(rt, name, &mut room) {
         work_file(rt, order, name, file);
     }

@@ -18,13 +18,13 @@ struct Telling<'a> {
 
 impl<'a> Telling<'a> {
     fn head(self, r: Report, lent: &[u8]) -> Result<(), Unwritten> {
-        let mut page = page::line();
+        let mut page = page::room::<{ page::LINE }>();
         let end = told_lines::head_text(self.order.marks, self.job, self.file, r, lent, &mut page);
         page::show(self.rt, Stream::Output, &page, end)
     }
 
     fn lemma(self, position: usize) -> Result<(), Unwritten> {
-        let mut page = page::line();
+        let mut page = page::room::<{ page::LINE }>();
         let end = told_lemmas::lemma_line(self.file, position, &mut page);
         page::show(self.rt, Stream::Output, &page, end)
     }
@@ -40,7 +40,7 @@ impl<'a> Telling<'a> {
     }
 
     fn set_line(self, number: usize, set: &[u8]) -> Result<(), Unwritten> {
-        let mut page = page::line();
+        let mut page = page::room::<{ page::LINE }>();
         let end = told_lines::set_text(self.order.marks, self.job, number, set, &mut page);
         page::show(self.rt, Stream::Output, &page, end)
     }
@@ -71,7 +71,7 @@ impl<'a> Telling<'a> {
     }
 
     fn error(self, r: Report) -> Result<(), Unwritten> {
-        let mut page = page::line();
+        let mut page = page::room::<{ page::LINE }>();
         let order = self.order;
         let end = told_lines::error_text(
             self.job,

@@ -1,6 +1,4 @@
 // A circuit and its lemmas: both read whole, turned into the problem file, and that handed to the job.
-ghost use Rattle.std.specs.Prelude.{◌≡◌, length};
-
 use crate::page::Stream;
 use crate::{arg, page, reading, telling};
 use symbols::line::line_end;
@@ -8,11 +6,7 @@ use text_faults::liveness::liveness_of;
 use words::{Job, Order};
 
 // As many bytes as the problem file of a circuit may take.
-fn file_room() -> [u8; 46220]
-    ensures { 46220 ≡ length result }
-{
-    [0; 46220]
-}
+const FILE: usize = 46220;
 
 // A circuit and its lemmas, each by its name and as it was read.
 #[derive(Clone, Copy)]
@@ -46,7 +40,7 @@ fn work_file(rt: &HostRuntime, order: Order, file: &[u8]) {
 
 impl<'a> Texts<'a> {
     fn tell_refusal(self, rt: &HostRuntime, number: u32, place: usize) {
-        let mut page = page::line();
+        let mut page = page::room::<{ page::LINE }>();
         let end = told_texts::text_refusal(
             self.name,
             self.circuit,
@@ -62,7 +56,7 @@ impl<'a> Texts<'a> {
 
     // Texts that were read whole.
     fn work_whole(self, rt: &HostRuntime, order: Order) {
-        let mut file = file_room();
+        let mut file = page::room::<FILE>();
         let r = circuits::problem(self.circuit, self.lemmas, &mut file);
         if r.number != 0 {
             self.tell_refusal(rt, r.number, r.place);
@@ -164,9 +158,9 @@ fn work_named(rt: &HostRuntime, order: Order, name: &[u8], other: &[u8]) {
 
 // The job on the circuit and the lemmas that two words name.
 pub fn work(rt: &HostRuntime, order: Order, i: usize, j: usize) {
-    let mut buf = reading::word_room();
+    let mut buf = page::room::<{ reading::WORD }>();
     let name = arg(rt, i, &mut buf);
-    let mut more = reading::word_room();
+    let mut more = page::room::<{ reading::WORD }>();
     let other = arg(rt, j, &mut more);
     work_named(rt, order, name, other);
 }
