@@ -1,5 +1,5 @@
 -- Laws of a lemma line's causes: by the word at a place, and the byte after it.
-use Rattle.std.specs.Prelude.{ℕ, suc, ◌+◌, ◌≤◌, ◌<◌, ◌≡◌, ◌⊎◌, Bool, List, [], ◌∷◌, length, get_or, eqb, leb, ltb}
+use Rattle.std.specs.Prelude.{ℕ, suc, ◌+◌, ◌≤◌, ◌<◌, ◌≡◌, ◌⊎◌, Bool, List, [], ◌∷◌, length, get_or, eqb, leb, ltb, None, Some}
 use Rattle.std.proofs.Math.Path.{sym, ap}
 use Rattle.std.proofs.Common.{◌∙◌, inl, inr, true≢false, arith}
 use Rattle.std.proofs.Math.Bool.{true, false, cond}
@@ -14,7 +14,7 @@ use Rattle.lines.specs.Past.{first_word}
 use Rattle.lines.specs.PastLaws.{some_digits}
 use Rattle.lemma_text.specs.Words.{WordAt, minus_at, digits_start, with_sign, unsigned_is, plain_span, signed_not_zero, sign_before, word_cut, word_last, word_space, word_other}
 use Rattle.lemma_text.specs.Line.{value_zero}
-use Rattle.text_faults.specs.declared.lemmas.Cause.TheVariants.{Word, Inner, Over, NoZero, Nothing}
+use Rattle.text_faults.specs.declared.lemmas.Cause.TheVariants.{Word, Inner, Over, NoZero}
 use Rattle.text_faults.specs.Lemmas.{last_cause, inner_cause, words_cause}
 
 -- ---- a value as far as it is below the bound
@@ -42,7 +42,7 @@ unfolding words_cause
 inner_more most j w l = let on = first_word l in rw on.2
 
 -- a first word that is no number
-wrong_first : (most j : ℕ) (w : List ℕ) (ws : List (List ℕ)) → is_number (unsigned w) ≡ false → words_cause most j (w ∷ ws) ≡ Word j
+wrong_first : (most j : ℕ) (w : List ℕ) (ws : List (List ℕ)) → is_number (unsigned w) ≡ false → words_cause most j (w ∷ ws) ≡ Some (Word j)
 unfolding words_cause last_cause inner_cause
 wrong_first most j w [] h = rw h
 wrong_first most j w (v ∷ ws) h = rw h
@@ -79,16 +79,16 @@ module _ (text : List ℕ) (at : ℕ) (x : Number) (w : WordAt text at x) where
 
   -- the last word
   module _ (j : ℕ) where
-    pub last_empty : x.end ≡ x.start → Word j ≡ last_cause j first
+    pub last_empty : x.end ≡ x.start → Some (Word j) ≡ last_cause j first
     unfolding last_cause
     last_empty h = rw (bare, no_number h)
 
     module _ (some : x.end ≡ x.start → ⊥) where
-      last_by : (t : Bool) → is_zero first ≡ t → cond t Nothing NoZero ≡ last_cause j first
+      last_by : (t : Bool) → is_zero first ≡ t → cond t None (Some NoZero) ≡ last_cause j first
       unfolding last_cause
       last_by t e = rw (bare, a_number some, e)
 
-      pub last_signed : at < x.start → NoZero ≡ last_cause j first
+      pub last_signed : at < x.start → Some NoZero ≡ last_cause j first
       last_signed h =
           let minus = sym (sign_before text at x w) ∙ lt-ltb at x.start h in
           last_by false (ap (λ (t : Bool). is_zero (with_sign t (span text x))) minus ∙ signed_not_zero (span text x))
@@ -101,10 +101,10 @@ module _ (text : List ℕ) (at : ℕ) (x : Number) (w : WordAt text at x) where
             ap (λ (s : Bool). is_zero (with_sign s (span text x))) no_sign
             ∙ (rw (a_number some, sym (value_zero text x w.stands), e))
 
-        pub last_value : 0 < x.value → NoZero ≡ last_cause j first
+        pub last_value : 0 < x.value → Some NoZero ≡ last_cause j first
         last_value h = last_by false (unsigned_zero false (ne_eqb x.value 0 (λ e. omega (arith, e))))
 
-        pub last_right : x.value ≡ 0 → Nothing ≡ last_cause j first
+        pub last_right : x.value ≡ 0 → None ≡ last_cause j first
         last_right h = last_by true (unsigned_zero true (eq-eqb x.value 0 h))
 
   module _ (most j : ℕ) (inside : x.end < length text) where
@@ -113,7 +113,7 @@ module _ (text : List ℕ) (at : ℕ) (x : Number) (w : WordAt text at x) where
     line_last is = ap (words_cause most j) (word_last text at x w inside is)
 
     pub line_spoiled : (get_or text x.end 0 ≡ newline → ⊥) → (get_or text x.end 0 ≡ space → ⊥)
-        → words_cause most j (words (line_at text at)) ≡ Word j
+        → words_cause most j (words (line_at text at)) ≡ Some (Word j)
     line_spoiled not_newline not_space =
         let on = word_other text at x w inside not_newline not_space in
         let plain = unsigned_is (minus_at text at) on.0 on.4 in
@@ -124,18 +124,18 @@ module _ (text : List ℕ) (at : ℕ) (x : Number) (w : WordAt text at x) where
           ≡ inner_cause most j first (words_cause most (suc j) (words (line_at text (x.end + 1))))
       on_space = ap (words_cause most j) (word_space text at x w inside is) ∙ inner_more most j first (line_at text (x.end + 1))
 
-      pub inner_empty : x.end ≡ x.start → words_cause most j (words (line_at text at)) ≡ Word j
+      pub inner_empty : x.end ≡ x.start → words_cause most j (words (line_at text at)) ≡ Some (Word j)
       unfolding inner_cause
       inner_empty h = on_space ∙ (rw (bare, no_number h))
 
       module _ (some : x.end ≡ x.start → ⊥) where
-        pub inner_zero : x.value ≡ 0 → words_cause most j (words (line_at text at)) ≡ Inner j
+        pub inner_zero : x.value ≡ 0 → words_cause most j (words (line_at text at)) ≡ Some (Inner j)
         unfolding inner_cause
         inner_zero h =
             on_space ∙ (rw (bare, a_number some, sym (value_zero text x w.stands), eq-eqb x.value 0 h))
 
         module _ (not_zero : x.value ≡ 0 → ⊥) where
-          pub inner_over : most < x.value → words_cause most j (words (line_at text at)) ≡ Over j
+          pub inner_over : most < x.value → words_cause most j (words (line_at text at)) ≡ Some (Over j)
           unfolding inner_cause worth
           inner_over h =
               let far : most < decimal (span text x) = capped_over most (worth text x) (omega (arith, w.stands.value)) in

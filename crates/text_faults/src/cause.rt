@@ -68,10 +68,7 @@ fn out(text: &[u8], at: usize, width: usize, j: usize, m: Number) -> bool
     requires stands { Stands text.now m }
     ensures { result ≡ out text.now at width j (worth text.now m) }
 {
-    if width <= j {
-        return false;
-    }
-    !used_right(text, m, nth(text, at, j))
+    j < width && !used_right(text, m, nth(text, at, j))
 }
 
 // Whether no line defines the variable of number j.
@@ -80,10 +77,7 @@ fn unknown_at(text: &[u8], at: usize, width: usize, j: usize, p: Places) -> bool
     requires inside { Inside text.now p }
     ensures { result ≡ unknown_at text.now at width j p }
 {
-    if width <= j {
-        return false;
-    }
-    !known_here(text, p, nth(text, at, j))
+    j < width && !known_here(text, p, nth(text, at, j))
 }
 
 // The numbers after the first.

@@ -27,10 +27,7 @@ pub struct Fault {
 fn below_huge(n: usize) -> usize
     ensures { (result ≡ below_huge n) × (result < 18446744073709551610) }
 {
-    if n < 18446744073709551609 {
-        return n;
-    }
-    18446744073709551609
+    n.min(18446744073709551609)
 }
 
 // How many positions each letter has.

@@ -1,5 +1,5 @@
 // The lines that define a variable, as far as lines start with a number.
-ghost use Rattle.std.specs.Prelude.{◌≡◌, ◌<◌, ◌≤◌, min, length};
+ghost use Rattle.std.specs.Prelude.{◌≡◌, ◌<◌, ◌≤◌, length};
 ghost use Rattle.meaning.specs.Circuit.{var};
 ghost use Rattle.lines.specs.Numbers.{Stands, worth};
 ghost use Rattle.text_faults.specs.Definers.{definer, Inside, past_properties, places_of, known_here, earlier};
@@ -83,15 +83,6 @@ pub fn known_here(text: &[u8], p: Places, x: Number) -> bool
     definer(text, x, p.gates, p.symbols) < p.symbols
 }
 
-fn smaller(a: usize, b: usize) -> usize
-    ensures { (result ≡ min a b) × (result ≤ a) × (result ≤ b) }
-{
-    if a < b {
-        return a;
-    }
-    b
-}
-
 // The first line before a place that defines this literal's variable; the place, where none does.
 pub fn earlier(text: &[u8], p: Places, x: Number, at: usize) -> usize
     requires inside { Inside text.now p }
@@ -99,7 +90,7 @@ pub fn earlier(text: &[u8], p: Places, x: Number, at: usize) -> usize
     requires at_in_bounds { at ≤ length text.now }
     ensures { result ≡ earlier text.now p (worth text.now x) at }
 {
-    let to = smaller(p.outputs, at);
+    let to = p.outputs.min(at);
     let found = definer(text, x, p.inputs, to);
     if found < to {
         return found;

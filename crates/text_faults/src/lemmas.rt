@@ -17,69 +17,60 @@ pub enum Cause {
     Inner(usize), // this number is 0, and the line goes on
     Over(usize), // this number is over L
     NoZero, // its last number is not 0, or has a '-'
-    Nothing, // none of these
 }
 
 // The last word of a line.
-fn last_cause(text: &[u8], p: usize, x: Number, j: usize) -> Cause
+fn last_cause(text: &[u8], p: usize, x: Number, j: usize) -> Option<Cause>
     requires { WordAt text.now p x }
     ensures { result ≡ last_cause j (with_sign (minus_at text.now p) (span text.now x)) }
 {
     if x.end == x.start {
-        return Cause::Word(j);
+        return Some(Cause::Word(j));
     }
-    if p < x.start {
-        return Cause::NoZero;
+    if p < x.start || 0 < x.value {
+        return Some(Cause::NoZero);
     }
-    if 0 < x.value {
-        return Cause::NoZero;
-    }
-    Cause::Nothing
+    None
 }
 
 // The words of a line that is ended.
-fn words_cause(text: &[u8], at: usize, latches: usize) -> Cause
+fn words_cause(text: &[u8], at: usize, latches: usize) -> Option<Cause>
     requires at_in_bounds { at ≤ length text.now }
     requires at_value { ended text.now at ≡ true }
     requires latches_bound { latches < 18446744073709551610 }
     ensures { result ≡ words_cause latches 1 (words (line_at text.now at)) }
 {
     let mut p = at;
+    // The words are counted by hand: a `for` over their numbers would need an end that the walk never comes to.
     let mut j: usize = 1;
     loop {
         let x = digits_at(text, p);
         let end = x.end;
         let b = text[end];
-        if b == 10 {
+        if b == b'\n' {
             return last_cause(text, p, x, j);
         }
-        if b != 32 {
-            return Cause::Word(j);
-        }
-        if end == x.start {
-            return Cause::Word(j);
+        if b != b' ' || end == x.start {
+            return Some(Cause::Word(j));
         }
         if x.value == 0 {
-            return Cause::Inner(j);
+            return Some(Cause::Inner(j));
         }
         if latches < x.value {
-            return Cause::Over(j);
+            return Some(Cause::Over(j));
         }
         p = end + 1;
         j += 1;
     }
 }
 
-// The line at a place, over so many latches.
-pub fn lemma_cause(text: &[u8], at: usize, latches: usize) -> Cause
+// What is wrong with the line at a place, over so many latches, if anything is.
+pub fn lemma_cause(text: &[u8], at: usize, latches: usize) -> Option<Cause>
     requires { latches < 18446744073709551610 }
     ensures { result ≡ lemma_cause latches text.now at }
 {
-    if text.len() <= at {
-        return Cause::Open;
-    }
-    if text.len() <= line_end(text, at) {
-        return Cause::Open;
+    if text.len() <= at || text.len() <= line_end(text, at) {
+        return Some(Cause::Open);
     }
     words_cause(text, at, latches)
 }

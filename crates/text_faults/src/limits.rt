@@ -24,7 +24,6 @@ pub enum Limit {
     Lemmas(usize), // more than 128
     LongLemma(usize, usize), // the lemma of this line has so many literals: more than 64
     Clauses, // none of these: more than 4,096 clauses
-    Nothing, // no header
 }
 
 // How many spaces a line has: as many as literals, where it is a lemma.
@@ -33,7 +32,7 @@ fn spaces(text: &[u8], at: usize) -> usize
     ensures { result ≡ count_of 32 (line_at text.now at) }
 {
     let end = line_end(text, at);
-    count_byte(&text[at..end], 32)
+    count_byte(&text[at..end], b' ')
 }
 
 // The first lemma of more than 64 literals; where there is none, the clauses are what is left.
@@ -55,7 +54,7 @@ fn long_lemma(text: &[u8]) -> Limit
 fn lemmas_limit(lemmas: &[u8]) -> Limit
     ensures { result ≡ lemmas_limit lemmas.now }
 {
-    let met = count_byte(lemmas, 10);
+    let met = count_byte(lemmas, b'\n');
     if 128 < met {
         return Limit::Lemmas(met);
     }
@@ -66,13 +65,11 @@ fn lemmas_limit(lemmas: &[u8]) -> Limit
 fn bads_limit(bads: usize, lemmas: &[u8]) -> Limit
     ensures { result ≡ bads_limit bads lemmas.now }
 {
-    if bads == 0 {
-        return Limit::NoBad;
+    match bads {
+        0 => Limit::NoBad,
+        1 => lemmas_limit(lemmas),
+        _ => Limit::Bads(bads),
     }
-    if bads != 1 {
-        return Limit::Bads(bads);
-    }
-    lemmas_limit(lemmas)
 }
 
 // Outputs and bad literals, then the lemmas.
@@ -96,17 +93,10 @@ fn width_limit(text: &[u8], h: Header, lemmas: &[u8]) -> Limit
     requires { Parts text.now h }
     ensures { result ≡ width_limit (header_at text.now h) lemmas.now }
 {
-    let i = h.i;
-    let o = h.o;
-    let a = h.a;
-    let b = h.b;
-    if 320 < i.value {
-        return Limit::Width(i.value, a.value);
+    if 320 < h.i.value || 320 - h.i.value < h.a.value {
+        return Limit::Width(h.i.value, h.a.value);
     }
-    if 320 - i.value < a.value {
-        return Limit::Width(i.value, a.value);
-    }
-    property_limit(o.value, b.value, lemmas)
+    property_limit(h.o.value, h.b.value, lemmas)
 }
 
 // The latches, then the rest.
@@ -124,18 +114,17 @@ fn header_limit(text: &[u8], h: Header, lemmas: &[u8]) -> Limit
     width_limit(text, h, lemmas)
 }
 
-// The first limit that the texts are over, in the order of the list; the clauses, which are not counted here, where no other is.
-pub fn limit_of(text: &[u8], lemmas: &[u8]) -> Limit
+// The first limit that the texts are over, in the order of the list; the clauses, which are not counted here, where no other is; none, where
+// there is no header.
+pub fn limit_of(text: &[u8], lemmas: &[u8]) -> Option<Limit>
     ensures { result ≡ limit_of text.now lemmas.now }
 {
     if 65536 < text.len() {
-        return Limit::LongCircuit;
+        return Some(Limit::LongCircuit);
     }
     if 65536 < lemmas.len() {
-        return Limit::LongLemmas;
+        return Some(Limit::LongLemmas);
     }
-    let Some(h) = read_header(text) else {
-        return Limit::Nothing;
-    };
-    header_limit(text, h, lemmas)
+    let h = read_header(text)?;
+    Some(header_limit(text, h, lemmas))
 }

@@ -21,10 +21,8 @@ pub fn liveness_of(text: &[u8]) -> Liveness
             fairness: 0,
         };
     };
-    let j = h.j;
-    let f = h.f;
     Liveness {
-        justice: j.value,
-        fairness: f.value,
+        justice: h.j.value,
+        fairness: h.f.value,
     }
 }

@@ -88,9 +88,12 @@ pub fn put_cause(page: &mut Page<'_>, text: &[u8], cause: Cause)
 }
 
 // Why a line of lemmas is refused, over so many latches.
-pub fn put_lemma_cause(page: &mut Page<'_>, latches: usize, cause: lemmas::Cause)
+pub fn put_lemma_cause(page: &mut Page<'_>, latches: usize, cause: Option<lemmas::Cause>)
     ensures { Puts (lemma_cause_text latches cause) page.old page.new }
 {
+    let Some(cause) = cause else {
+        return page.put_all(b"no lemma\n");
+    };
     match cause {
         lemmas::Cause::Open => page.put_all(
             b"no newline ends the line: the text may have been cut\n",
@@ -108,6 +111,5 @@ pub fn put_lemma_cause(page: &mut Page<'_>, latches: usize, cause: lemmas::Cause
             &[j as u64, latches as u64],
         ),
         lemmas::Cause::NoZero => page.put_all(b"the line does not end with a 0 without a sign\n"),
-        lemmas::Cause::Nothing => page.put_all(b"no lemma\n"),
     }
 }

@@ -9,24 +9,13 @@ use text_faults::limits::Limit;
 use usage::put_word;
 
 // Whether a limit is one of the lemma text.
-fn of_lemmas(limit: Limit) -> bool
+fn of_lemmas(limit: Option<Limit>) -> bool
     ensures { result ≡ of_lemmas limit }
 {
-    match limit {
-        Limit::LongCircuit => false,
-        Limit::LongLemmas => true,
-        Limit::NoLatch => false,
-        Limit::Latches(_) => false,
-        Limit::Width(_, _) => false,
-        Limit::NoBad => false,
-        Limit::Outputs(_) => false,
-        Limit::Bads(_) => false,
-        Limit::Both(_, _) => false,
-        Limit::Lemmas(_) => true,
-        Limit::LongLemma(_, _) => true,
-        Limit::Clauses => false,
-        Limit::Nothing => false,
-    }
+    matches!(
+        limit,
+        Some(Limit::LongLemmas | Limit::Lemmas(_) | Limit::LongLemma(_, _))
+    )
 }
 
 // Which text.
@@ -42,9 +31,12 @@ fn put_head(page: &mut Page<'_>, of: bool, circuit: &[u8], lemmas: &[u8])
 }
 
 // What is over the limit.
-fn put_limit(page: &mut Page<'_>, limit: Limit)
+fn put_limit(page: &mut Page<'_>, limit: Option<Limit>)
     ensures { Puts (limit_text limit) page.old page.new }
 {
+    let Some(limit) = limit else {
+        return page.put_all(b": no limit that this program knows\n");
+    };
     match limit {
         Limit::LongCircuit => page.put_all(b": more than 65536 bytes\n"),
         Limit::LongLemmas => page.put_all(b": more than 65536 bytes\n"),
@@ -83,12 +75,11 @@ fn put_limit(page: &mut Page<'_>, limit: Limit)
         Limit::Clauses => page.put_all(
             b": more than 4096 clauses in Init, Tr, Bad and the lemmas together: each constraint (assume) adds one to Tr and one to Bad, each gate up to three to both; have fewer of them\n",
         ),
-        Limit::Nothing => page.put_all(b": no limit that this program knows\n"),
     }
 }
 
 // 14 on a line, with the text that is over the limit, by its name.
-pub fn limit_line(circuit: &[u8], lemmas: &[u8], limit: Limit, out: &mut [u8]) -> usize
+pub fn limit_line(circuit: &[u8], lemmas: &[u8], limit: Option<Limit>, out: &mut [u8]) -> usize
     ensures { Holds out.old (limit_line circuit.now lemmas.now limit) out.new result }
 {
     let mut page = Page::new(out);

@@ -67,7 +67,8 @@ pub fn lemma_line(name: &[u8], circuit: &[u8], text: &[u8], place: usize, out: &
     page.end
 }
 
-// A refusal of two texts, by its number and place: 13 of the circuit, 13 of the lemmas, 15, or 14.
+// A refusal of two texts, by its number, which is that of the report in the C interface, and its place: 13 of the circuit, 13 of the lemmas, 15,
+// or 14.
 pub fn text_refusal(
     name: &[u8],
     circuit: &[u8],

@@ -9,16 +9,14 @@ ghost use Rattle.usage.specs.Texts.{not_opened, not_read, circuit_alone, version
 use text::Page;
 use words::{Fault, Order};
 
+#[tactic(auto, unfolding(crate::specs::Texts::shown_byte))]
 fn shown_byte(b: u8) -> u8
     ensures { result ≡ shown_byte b }
 {
-    if b < 32 {
-        return b'?';
+    match b {
+        32..=126 => b,
+        _ => b'?',
     }
-    if 126 < b {
-        return b'?';
-    }
-    b
 }
 
 fn put_shown(page: &mut Page<'_>, bytes: &[u8])
@@ -69,10 +67,11 @@ fn put_number_fault(page: &mut Page<'_>, named: usize, word: &[u8], why: &[u8])
 fn put_fault(page: &mut Page<'_>, o: Order, word: &[u8])
     ensures { Puts (fault_text o word.now) page.old page.new }
 {
-    let fault = o.fault;
+    let Some(fault) = o.fault else {
+        return;
+    };
     let named = o.named;
     match fault {
-        Fault::Nothing => {}
         Fault::Unknown => put_around(page, b"trim: unknown word ", word, b": say trim --help\n"),
         Fault::Superfluous => put_around(
             page,

@@ -7,13 +7,13 @@ use Rattle.lines.specs.Numbers.{worth}
 use Rattle.text_faults.specs.Causes.{out}
 use Rattle.text_faults.proofs.cause.out.Goals as goal
 
-pub returns-then-width-j : goal.returns-then-width-j
+pub returns-else-j-width : goal.returns-else-j-width
 unfolding out
-returns-then-width-j c =
-    rw (le-ltb c.args.j c.args.width c.if-width-j.true)
+returns-else-j-width c =
+    rw (le-ltb c.args.j c.args.width c.if-j-width.false)
 
-pub returns : goal.returns
+pub returns-then-j-width : goal.returns-then-j-width
 unfolding out
-returns c =
-    rw (lt-ltb c.args.j c.args.width c.if-width-j.false)
+returns-then-j-width c =
+    rw (lt-ltb c.args.j c.args.width c.if-j-width.true)
     (ap not (c.used_right.ensures ∙ ap (used_right (worth c.args.text.now c.args.m)) c.nth.ensures.1))

@@ -6,13 +6,13 @@ use Rattle.text_faults.specs.Definers.{known_here}
 use Rattle.text_faults.specs.Causes.{unknown_at}
 use Rattle.text_faults.proofs.cause.unknown_at.Goals as goal
 
-pub returns-then-width-j : goal.returns-then-width-j
+pub returns-else-j-width : goal.returns-else-j-width
 unfolding unknown_at
-returns-then-width-j c =
-    rw (le-ltb c.args.j c.args.width c.if-width-j.true)
+returns-else-j-width c =
+    rw (le-ltb c.args.j c.args.width c.if-j-width.false)
 
-pub returns : goal.returns
+pub returns-then-j-width : goal.returns-then-j-width
 unfolding unknown_at
-returns c =
-    rw (lt-ltb c.args.j c.args.width c.if-width-j.false)
+returns-then-j-width c =
+    rw (lt-ltb c.args.j c.args.width c.if-j-width.true)
     (ap not (c.known_here.ensures ∙ ap (known_here c.args.text.now c.args.p) c.nth.ensures.1))

@@ -7,6 +7,7 @@ use Rattle.lemma_text.specs.Words.{word_rises, word_space_ended}
 use Rattle.text_faults.specs.Lemmas.{words_cause}
 use Rattle.text_faults.specs.LemmaLaws.{ends_inside, line_last, line_spoiled, inner_empty, inner_zero, inner_over, inner_on}
 use Rattle.text_faults.proofs.lemmas.words_cause.Goals as goal
+use Rattle.text_faults.proofs.lemmas.words_cause.Goals.{then-b-ne32-via-then-b-ne32, then-b-ne32-via-else-b-ne32+then-end-x}
 
 pub bounds-text-end : goal.bounds-text-end
 bounds-text-end c =
@@ -20,15 +21,13 @@ returns-then-b-eq10 c =
 
 pub returns-then-b-ne32 : goal.returns-then-b-ne32
 returns-then-b-ne32 c =
-    let w = c.digits_at-x.ensures in
-    let inside = ends_inside _ _ _ w c.loop-x.invariant.1 in
-    sym (c.loop-x.invariant.0 ∙ line_spoiled _ _ _ w _ _ inside c.if-b-eq10.false c.if-b-ne32.true)
-
-pub returns-then-end-x : goal.returns-then-end-x
-returns-then-end-x c =
-    let w = c.digits_at-x.ensures in
-    let inside = ends_inside _ _ _ w c.loop-x.invariant.1 in
-    sym (c.loop-x.invariant.0 ∙ inner_empty _ _ _ w _ _ inside c.if-b-ne32.false c.if-end-x.true)
+    let d = c.digits_at-x.ensures in
+    let inside = ends_inside _ _ _ d c.loop-x.invariant.1 in
+    elim c.then-b-ne32.branch [
+      | then-b-ne32-via-then-b-ne32 w ↦ sym (c.loop-x.invariant.0 ∙ line_spoiled _ _ _ d _ _ inside c.if-b-eq10.false w.if-b-ne32.true)
+      | then-b-ne32-via-else-b-ne32+then-end-x w ↦
+          sym (c.loop-x.invariant.0 ∙ inner_empty _ _ _ d _ _ inside w.if-b-ne32.false w.if-end-x.true)
+    ]
 
 pub returns-then-x-eq0 : goal.returns-then-x-eq0
 returns-then-x-eq0 c =

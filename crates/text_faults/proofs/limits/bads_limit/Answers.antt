@@ -1,19 +1,17 @@
 -- `text_faults::limits::bads_limit` makes the definition's tests. Assumes nothing.
-use borrow.Author.Tests.{eq-eqb, ne_eqb}
+use native.Mathlib.Omega.{arith}
+use borrow.Author.Tests.{ne_eqb}
 use Rattle.text_faults.specs.Limits.{bads_limit}
 use Rattle.text_faults.proofs.limits.bads_limit.Goals as goal
 
-pub returns-then-bads-eq0 : goal.returns-then-bads-eq0
+pub returns-in-0 : goal.returns-in-0
 unfolding bads_limit
-returns-then-bads-eq0 c =
-    rw (eq-eqb c.args.bads 0 c.if-bads-eq0.true)
+returns-in-0 c = rw c.in-0.is
 
-pub returns-then-bads-ne1 : goal.returns-then-bads-ne1
+pub returns-in-1 : goal.returns-in-1
 unfolding bads_limit
-returns-then-bads-ne1 c =
-    rw (ne_eqb c.args.bads 0 c.if-bads-eq0.false, ne_eqb c.args.bads 1 c.if-bads-ne1.true)
+returns-in-1 c = rw c.in-1.is c.lemmas_limit.ensures
 
-pub returns : goal.returns
+pub returns-in_default : goal.returns-in_default
 unfolding bads_limit
-returns c =
-    rw (ne_eqb c.args.bads 0 c.if-bads-eq0.false, eq-eqb c.args.bads 1 c.if-bads-ne1.false) c.lemmas_limit.ensures
+returns-in_default c = rw (ne_eqb c.args.bads 0 (λ e. omega arith), ne_eqb c.args.bads 1 (λ e. omega arith))

@@ -2,6 +2,7 @@
 use mathlib.Core.Path.{ap, ◌∙◌}
 use borrow.Author.Tests.{lt-ltb, le-ltb}
 use lib.ListN.{length}
+use Rattle.std.specs.Prelude.{Some}
 use Rattle.meaning.specs.CircuitText.{Header}
 use Rattle.circuit_text.specs.Header.{header_at}
 use Rattle.text_faults.specs.Limits.{header_limit, limit_of}
@@ -35,4 +36,4 @@ returns c =
       le-ltb 65536 (length c.args.lemmas.now) c.if-lemmas-gt65536.false,
       c.in-Some.ensures.right,
     )
-    (c.header_limit.ensures ∙ ap (λ (h : Header). header_limit h c.args.lemmas.now) parts.worths)
+    (ap Some (c.header_limit.ensures ∙ ap (λ (h : Header). header_limit h c.args.lemmas.now) parts.worths))

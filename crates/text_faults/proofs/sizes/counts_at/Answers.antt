@@ -9,6 +9,6 @@ returns c =
     let t = c.args.text.now in
     let h = c.args.h in (
       counts_at_is t (header_at t h) h.next _ _ _ _ _ _ _ _ _ _ c.requires.i.value c.requires.l.value c.requires.o.value c.requires.b.value c.requires.c.value
-          c.skip.ensures.0 c.skip-outputs.ensures.0 c.skip-2.ensures.0 c.skip-3.ensures.0 c.skip-4.ensures.0,
-      c.skip-4.ensures.1,
+          c.skip.ensures.0 c.skip-outputs.ensures.0 c.skip-2.ensures.0 c.skip-constraints.ensures.0 c.skip-3.ensures.0,
+      c.skip-3.ensures.1,
     )

@@ -9,4 +9,4 @@ returns c =
     let t = c.args.text.now in
     let h = c.args.h in
     sizes_are t (header_at t h) h.next _ _ _ _ _ _ _ _ _ _ c.requires.i.value c.requires.l.value c.requires.o.value c.requires.b.value c.requires.c.value c.requires.j.value c.requires.f.value c.requires.a.value
-    c.counts_at.ensures.0 c.first_sum-justice.ensures
+    c.counts_at.ensures.0 c.first_sum.ensures

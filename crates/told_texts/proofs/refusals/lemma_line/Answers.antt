@@ -3,6 +3,7 @@ use Prim.Native.Nat.{ℕ}
 use Rattle.std.proofs.Common.{rules}
 use mathlib.Core.Path.{ap, ◌∙◌}
 use mathlib.Core.List.{◌++◌}
+use Rattle.std.specs.Prelude.{Option}
 use Rattle.text.specs.Ascii.{ascii}
 use Rattle.text.specs.Pages.{puts_is, puts_both, puts_out}
 use Rattle.text_faults.specs.declared.lemmas.Cause.{Cause}
@@ -18,7 +19,7 @@ returns c =
     let head = place_text t a.place (ascii "lemmas ") a.name.now in
     let after = line_shown t a.place in
     let is =
-    ap (λ (x : Cause). head ++ (ascii ": " ++ (lemma_cause_text c.latches_of-latches.result x ++ after))) c.lemma_cause-cause.ensures
+    ap (λ (x : Option Cause). head ++ (ascii ": " ++ (lemma_cause_text c.latches_of-latches.result x ++ after))) c.lemma_cause-cause.ensures
     ∙ ap (λ (l : ℕ). head ++ (ascii ": " ++ lemma_text l t a.place after)) c.latches_of-latches.ensures.0 in
     let wrote =
     puts_is is (puts_both c.put_place.ensures (puts_both c.put_all.ensures (puts_both c.put_lemma_cause.ensures c.put_line.ensures))) in
