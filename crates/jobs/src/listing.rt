@@ -11,7 +11,7 @@ ghost use Rattle.jobs.specs.ListingCall.{report_at};
 use crate::marks::reported;
 use branches::nodes::node;
 use format::Problem;
-use problem::{Checked, Report, read_problem};
+use problem::{Report, read_problem};
 use rows::found::{Progress, Stop};
 use sets::members::{count, nothing};
 use sets::picks::largest_judged;
@@ -54,7 +54,7 @@ pub fn list_all(file: &[u8], budget: u32, rows: &mut [u8]) -> Report
 {
     let read = read_problem(file);
     match read {
-        Checked::Accepted(p) => list_placed(file, p, u64::from(budget), rows),
-        Checked::Refused(number, place) => reported(number, place, 0, 0),
+        Ok(p) => list_placed(file, p, u64::from(budget), rows),
+        Err(r) => Report::from(r),
     }
 }

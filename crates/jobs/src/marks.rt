@@ -10,7 +10,7 @@ ghost use Rattle.jobs.specs.Outcome.{outcome_of, reported_as};
 ghost use Rattle.jobs.specs.Leaving.{Job, left_by, WholeIs, Does};
 
 use format::Problem;
-use problem::{Checked, Report};
+use problem::Report;
 use rows::row::write_row;
 use search::Spent;
 use sets::picks::{Judged, largest, single};
@@ -58,13 +58,13 @@ fn marked<F: FnOnce(Problem) -> Result<Judged, Spent>>(
 {
     let read = problem::read_problem(file);
     match read {
-        Checked::Accepted(p) => {
+        Ok(p) => {
             if marks.len() < p.k {
                 return reported(9, 0, 0, 0);
             }
             leave(find(p), p.k, budget, marks)
         }
-        Checked::Refused(number, place) => reported(number, place, 0, 0),
+        Err(r) => Report::from(r),
     }
 }
 

@@ -21,11 +21,12 @@ use Rattle.laws.specs.SearchRight.{never_lost}
 use Rattle.format.specs.Section.{section}
 use Rattle.format.specs.declared.Literal.{Literal as Held}
 use Rattle.search.specs.declared.Parts.{Parts}
-use Rattle.search.specs.declared.Next.{Next}
-use Rattle.search.specs.declared.Next.TheVariants.{Satisfied, Try, Forced, Closed}
+use Rattle.passes.specs.declared.Tally.{Tally}
+use Rattle.passes.specs.declared.Tally.TheVariants.{Satisfied, Try, Forced, Closed}
 use Rattle.search.specs.declared.Answer.TheVariants.{No}
+use Rattle.passes.specs.Forms.{tally_at}
 use Rattle.passes.specs.Sweep.{Pass, passed, try, sweep}
-use Rattle.search.specs.Forms.{Found, pass_at, yes_or_no, bounded, later, ended_by}
+use Rattle.search.specs.Forms.{Found, yes_or_no, bounded, later, ended_by}
 use Rattle.search.specs.Places.{Sound, parts_clauses}
 use Rattle.search.specs.Engine.{search_at, tried, Ready}
 use Rattle.search.proofs.BudgetLaws.{under, none_left, first_ends, second_wanted, second_room, second_ends}
@@ -65,14 +66,14 @@ module _ (file : List ℕ) (on : List Bool) (q : Parts) where
       ∙ sweep_append last deny (sweep lemmas (sweep first p)))
 
 -- a pass that forced no literal is ready
-pub turned_ready : (cs : List Clause) (v u : Setting) (n : Next) → (n ≡ Forced → ⊥) → Turned cs v (pass_at n u) → Ready cs v (pass_at n u)
+pub turned_ready : (cs : List Clause) (v u : Setting) (n : Tally) → (n ≡ Forced → ⊥) → Turned cs v (tally_at n u) → Ready cs v (tally_at n u)
 turned_ready cs v u Satisfied h t = t
 turned_ready cs v u (Try l) h t = t
 turned_ready cs v u Closed h t = t
 turned_ready cs v u Forced h t = absurd (h refl)
 
 -- where nothing is left to try, the search has ended
-pub ready_ended : (cs : List Clause) (v u : Setting) (left : ℕ) (n : Next) → ((l : Held) → n ≡ Try l → ⊥) → Ready cs v (pass_at n u)
+pub ready_ended : (cs : List Clause) (v u : Setting) (left : ℕ) (n : Tally) → ((l : Held) → n ≡ Try l → ⊥) → Ready cs v (tally_at n u)
     → Ok (ended_by n) ≡ bounded left (answer (search_at cs v))
 unfolding answer yes_or_no
 ready_ended cs v u left Satisfied h r = sym (ap (λ (e : Ending). bounded left (answer e)) r ∙ under left _ (omega arith))

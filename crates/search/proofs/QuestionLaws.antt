@@ -20,7 +20,7 @@ use Rattle.laws.specs.Questions.{next_within, lemma_within, clauses_within}
 use Rattle.laws.specs.Wider.{wider}
 use Rattle.format.specs.declared.Problem.{Problem}
 use Rattle.format.specs.Section.{next_record, clause_at, section, Inside, problem_at, Placed}
-use Rattle.search.specs.declared.Section.{Section}
+use Rattle.format.specs.declared.Section.{Section}
 use Rattle.search.specs.declared.Question.TheVariants.{Initiation, Step, Safety}
 use Rattle.search.specs.Engine.{search_at}
 use Rattle.passes.specs.Places.{Records}
@@ -82,30 +82,30 @@ module _ (file : List ℕ) (p : Problem) (placed : Placed file p) where
   unfolding problem_at width
   width_small = omega (arith, placed.n_in, placed.m_in)
 
-  init_records : Records file p.init_at p.init_count
+  init_records : Records file p.init.at p.init.count
   unfolding problem_at
   init_records =
       record {
         inside = placed.init_in;
-        within = within_wider p.n 512 (omega (arith, n_small)) (section file p.init_at p.init_count) placed.well_formed.init;
+        within = within_wider p.n 512 (omega (arith, n_small)) (section file p.init.at p.init.count) placed.well_formed.init;
       }
 
-  tr_records : Records file p.tr_at p.tr_count
+  tr_records : Records file p.tr.at p.tr.count
   unfolding problem_at
   tr_records =
       record {
         inside = placed.tr_in;
-        within = within_wider (width (problem_at file p)) 512 width_small (section file p.tr_at p.tr_count) placed.well_formed.tr;
+        within = within_wider (width (problem_at file p)) 512 width_small (section file p.tr.at p.tr.count) placed.well_formed.tr;
       }
 
-  bad_records : Records file p.bad_at p.bad_count
+  bad_records : Records file p.bad.at p.bad.count
   unfolding problem_at width
   bad_records =
       record {
         inside = placed.bad_in;
         within =
-            within_wider (width (problem_at file p)) 512 width_small (section file p.bad_at p.bad_count)
-            (present_within p.n p.m (section file p.bad_at p.bad_count) placed.well_formed.bad);
+            within_wider (width (problem_at file p)) 512 width_small (section file p.bad.at p.bad.count)
+            (present_within p.n p.m (section file p.bad.at p.bad.count) placed.well_formed.bad);
       }
 
   lemma_records : Records file p.lemmas_at p.k
@@ -139,7 +139,7 @@ module _ (file : List ℕ) (p : Problem) (placed : Placed file p) where
     here_within = subst (ClauseWithin p.n) (sym is.there) (lemma_within (problem_at file p) placed.well_formed d)
 
     pub initiation_parts : Asks file p (Initiation d) (record {
-      first = record { at = p.init_at; count = p.init_count };
+      first = record { at = p.init.at; count = p.init.count };
       lemmas = record { at = 0; count = 0 };
       last = record { at = 0; count = 0 };
       denied = r;
@@ -164,13 +164,13 @@ module _ (file : List ℕ) (p : Problem) (placed : Placed file p) where
               };
           same =
               λ on.
-              ap (λ (cs : List Clause). section file p.init_at p.init_count ++ cs)
+              ap (λ (cs : List Clause). section file p.init.at p.init.count ++ cs)
               (ap (λ (cs : List Clause). cs ++ denied (map (next 0) (literals file r.at r.count))) (marks_none on)
               ∙ ap denied (next_zero (literals file r.at r.count) ∙ is.there));
         }
 
     pub step_parts : Asks file p (Step d) (record {
-      first = record { at = p.tr_at; count = p.tr_count };
+      first = record { at = p.tr.at; count = p.tr.count };
       lemmas = record { at = p.lemmas_at; count = p.k };
       last = record { at = 0; count = 0 };
       denied = r;
@@ -195,17 +195,17 @@ module _ (file : List ℕ) (p : Problem) (placed : Placed file p) where
               };
           same =
               λ on.
-              ap (λ (cs : List Clause). section file p.tr_at p.tr_count ++ (cs ++ denied (map (next p.n) (literals file r.at r.count))))
+              ap (λ (cs : List Clause). section file p.tr.at p.tr.count ++ (cs ++ denied (map (next p.n) (literals file r.at r.count))))
               (marks_enough file p.lemmas_at p.k on)
               ∙ ap (λ (c : Clause).
-              section file p.tr_at p.tr_count
+              section file p.tr.at p.tr.count
               ++ (at_marks (take p.k on) (section file p.lemmas_at p.k) ++ denied (map (next p.n) c))) is.there;
         }
 
   pub safety_parts : Asks file p Safety (record {
     first = record { at = 0; count = 0 };
     lemmas = record { at = p.lemmas_at; count = p.k };
-    last = record { at = p.bad_at; count = p.bad_count };
+    last = record { at = p.bad.at; count = p.bad.count };
     denied = record { at = 0; count = 0 };
     added = 0;
   })
@@ -222,9 +222,9 @@ module _ (file : List ℕ) (p : Problem) (placed : Placed file p) where
             };
         same =
             λ on.
-            ap (λ (cs : List Clause). cs ++ (section file p.bad_at p.bad_count ++ [])) (marks_enough file p.lemmas_at p.k on)
+            ap (λ (cs : List Clause). cs ++ (section file p.bad.at p.bad.count ++ [])) (marks_enough file p.lemmas_at p.k on)
             ∙ ap (λ (cs : List Clause). at_marks (take p.k on) (section file p.lemmas_at p.k) ++ cs)
-            (append-nil (section file p.bad_at p.bad_count));
+            (append-nil (section file p.bad.at p.bad.count));
       }
 
   -- the search of a question over all 512 variables answers it

@@ -5,8 +5,6 @@ use Rattle.meaning.specs.Meaning
 use Rattle.meaning.specs.Search
 use Rattle.meaning.specs.Rules
 use Rattle.meaning.specs.Rules.{Answer}
-use Rattle.format.specs.Forms.{literal_of}
-use Rattle.passes.specs.Sweep as spec
 use Rattle.passes.specs.Forms.{entries}
 use Rattle.search.specs.declared.Setting.{Setting}
 use Rattle.search.specs.declared.Marks.{Marks}
@@ -15,8 +13,8 @@ use Rattle.search.specs.declared.Question.TheVariants.{Initiation, Step, Safety}
 use Rattle.search.specs.declared.Answer.{Answer as Told}
 use Rattle.search.specs.declared.Answer.TheVariants.{Yes, No}
 use Rattle.search.specs.declared.Spent.{Spent}
-use Rattle.search.specs.declared.Next.{Next}
-use Rattle.search.specs.declared.Next.TheVariants.{Satisfied, Try, Forced, Closed}
+use Rattle.passes.specs.declared.Tally.{Tally}
+use Rattle.passes.specs.declared.Tally.TheVariants.{Satisfied, Try, Forced, Closed}
 
 abbrev pub setting_of : Setting → Search.Setting
 setting_of s = entries s.values
@@ -66,14 +64,8 @@ abbrev pub Counts : ℕ → Told → Type 0
 Counts d (Yes e) = d + e < 2 ^ 64
 Counts d (No e) = d + e < 2 ^ 64
 
-abbrev pub pass_at : Next → Search.Setting → spec.Pass
-pass_at Satisfied v = spec.passed v spec.satisfied
-pass_at (Try l) v = spec.passed v (spec.try (literal_of l))
-pass_at Forced v = spec.passed v spec.forced
-pass_at Closed v = spec.closed
-
 -- the answer where nothing is left to try
-abbrev pub ended_by : Next → Told
+abbrev pub ended_by : Tally → Told
 ended_by Satisfied = Yes 0
 ended_by (Try l) = No 0
 ended_by Forced = No 0

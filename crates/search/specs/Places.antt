@@ -8,7 +8,7 @@ use Rattle.format.specs.Section.{next_record, section, problem_at}
 use Rattle.format.specs.declared.Problem.{Problem}
 use Rattle.passes.specs.Places.{Records, Denials}
 use Rattle.search.specs.declared.Parts.{Parts}
-use Rattle.search.specs.declared.Section.{Section}
+use Rattle.format.specs.declared.Section.{Section}
 use Rattle.search.specs.declared.Question.{Question}
 use Rattle.search.specs.Forms.{question_of}
 

@@ -6,11 +6,11 @@ ghost use Rattle.meaning.specs.Search.{Setting as Partial};
 ghost use Rattle.format.specs.Forms.{literal_of};
 ghost use Rattle.passes.specs.Sweep.{passed, satisfied, sweep};
 ghost use Rattle.passes.specs.Forms.{entries, tally_at};
-ghost use Rattle.search.specs.Forms.{setting_of, pass_at, ended_by, bounded};
+ghost use Rattle.search.specs.Forms.{setting_of, ended_by, bounded};
 ghost use Rattle.search.specs.Engine.{search_at, Ready};
 ghost use Rattle.search.specs.Places.{Sound, parts_clauses};
 
-use crate::{Answer, Next, Parts, Setting, Spent};
+use crate::{Answer, Parts, Setting, Spent};
 use format::Literal;
 use passes::{Tally, sweep_denied, sweep_marked, sweep_records};
 
@@ -20,46 +20,22 @@ fn sweep_all(file: &[u8], on: &[bool; 128], q: Parts, values: &mut [u8; 513]) ->
     ensures { tally_at result (entries values.new)
         ≡ sweep (parts_clauses file.now on.now q) (passed (entries values.old) satisfied) }
 {
-    let start = Tally {
-        kind: 0,
-        variable: 0,
-    };
+    let start = Tally::Satisfied;
     let first = sweep_records(file, q.first.at, q.first.count, values, start);
     let lemmas = sweep_marked(file, on, q.lemmas.at, q.lemmas.count, values, first);
     let last = sweep_records(file, q.last.at, q.last.count, values, lemmas);
     sweep_denied(file, q.denied.at, q.denied.count, q.added, values, last)
 }
 
-// What a pass has found, by name.
-fn named(t: Tally) -> Next
-    ensures { (v : Partial) → pass_at result v ≡ tally_at t v }
-{
-    let x = t.variable;
-    if t.kind == 0 {
-        return Next::Satisfied;
-    }
-    if t.kind == 1 {
-        return Next::Forced;
-    }
-    if t.kind == 2 {
-        return Next::Closed;
-    }
-    if t.kind == 3 {
-        return Next::Try(Literal::Pos(x));
-    }
-    Next::Try(Literal::Neg(x))
-}
-
 // Rule (c), as long as it serves: a clause with no true literal and exactly one place holding an unset literal has that literal set true, not
 // counted. Forced literals may be set in any order, so a pass sets all that it meets; the last pass forces none.
-fn propagate(file: &[u8], on: &[bool; 128], q: Parts, values: &mut [u8; 513]) -> Next
+fn propagate(file: &[u8], on: &[bool; 128], q: Parts, values: &mut [u8; 513]) -> Tally
     requires { Sound file.now q × (length (entries values.old) ≡ 513) }
-    ensures { Ready (parts_clauses file.now on.now q) (entries values.old) (pass_at result (entries values.new)) }
+    ensures { Ready (parts_clauses file.now on.now q) (entries values.old) (tally_at result (entries values.new)) }
 {
     loop {
-        let t = sweep_all(file, on, q, values);
-        let next = named(t);
-        let Next::Forced = next else {
+        let next = sweep_all(file, on, q, values);
+        let Tally::Forced = next else {
             return next;
         };
     }
@@ -75,12 +51,12 @@ fn negated(l: Literal) -> Literal
 }
 
 // The answer at a setting where nothing is left to try: by rule (b) every clause has a true literal, or by rule (a) one has only false ones.
-fn ended(n: Next) -> Answer
-    ensures { result ≡ ended_by n }
+fn ended(t: Tally) -> Answer
+    ensures { result ≡ ended_by t }
 {
-    match n {
-        Next::Satisfied => Answer::Yes(0),
-        Next::Try(_) | Next::Forced | Next::Closed => Answer::No(0),
+    match t {
+        Tally::Satisfied => Answer::Yes(0),
+        Tally::Try(_) | Tally::Forced | Tally::Closed => Answer::No(0),
     }
 }
 
@@ -98,7 +74,7 @@ pub fn decide(
 {
     let mut setting = start;
     let next = propagate(file, on, q, &mut setting.values);
-    let Next::Try(l) = next else {
+    let Tally::Try(l) = next else {
         return Ok(ended(next));
     };
     if left == 0 {

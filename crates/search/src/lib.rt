@@ -3,7 +3,7 @@
 #![tactic(auto)]
 
 use engine::decide;
-use format::{Literal, Problem};
+use format::{Problem, Section};
 use places::parts_of;
 
 mod engine; // the search
@@ -57,23 +57,6 @@ impl Answer {
             Answer::No(d) => Answer::No(used + d),
         }
     }
-}
-
-// What a pass over clauses has found: every one has a true literal; a literal to try; literals that were forced, and are set; a clause with only
-// false ones.
-#[derive(Clone, Copy)]
-enum Next {
-    Satisfied,
-    Try(Literal),
-    Forced,
-    Closed,
-}
-
-// Where clauses stand in the file one behind another, or literals, and how many.
-#[derive(Clone, Copy)]
-struct Section {
-    at: usize,
-    count: usize,
 }
 
 // Where the clauses of a question stand in the file, in the question's order: records, the lemmas that are marked, records again, and the literals

@@ -4,8 +4,8 @@ ghost use Rattle.format.specs.Section.{Inside, Placed};
 ghost use Rattle.search.specs.Forms.{Among};
 ghost use Rattle.search.specs.Places.{place, LemmaAt, Asks};
 
-use crate::{Parts, Question, Section};
-use format::{Problem, two_at};
+use crate::{Parts, Question};
+use format::{Problem, Section, two_at};
 
 // No clause and no literal.
 const NOTHING: Section = Section { at: 0, count: 0 };
@@ -47,20 +47,14 @@ pub fn parts_of(file: &[u8], p: Problem, q: Question) -> Parts
     };
     match q {
         Question::Initiation(d) => Parts {
-            first: Section {
-                at: p.init_at,
-                count: p.init_count,
-            },
+            first: p.init,
             lemmas: NOTHING,
             last: NOTHING,
             denied: lemma_at(file, p, d),
             added: 0,
         },
         Question::Step(d) => Parts {
-            first: Section {
-                at: p.tr_at,
-                count: p.tr_count,
-            },
+            first: p.tr,
             lemmas,
             last: NOTHING,
             denied: lemma_at(file, p, d),
@@ -69,10 +63,7 @@ pub fn parts_of(file: &[u8], p: Problem, q: Question) -> Parts
         Question::Safety => Parts {
             first: NOTHING,
             lemmas,
-            last: Section {
-                at: p.bad_at,
-                count: p.bad_count,
-            },
+            last: p.bad,
             denied: NOTHING,
             added: 0,
         },
