@@ -52,21 +52,27 @@ wrong_first most j w [] h = rw h
 wrong_first most j w (v ∷ ws) h = rw h
 
 module _ (text : List ℕ) (at : ℕ) (x : LineWord) (w : WordAt text at x) where
+  abbrev digits : List ℕ
+  digits = x.number.digits.now
+
+  abbrev end : ℕ
+  end = x.start + length digits
+
   abbrev first : List ℕ
-  first = with_sign (minus_at text at) x.number.digits.now
+  first = with_sign (minus_at text at) digits
 
-  bare : unsigned first ≡ x.number.digits.now
-  bare = unsigned_is (minus_at text at) x.number.digits.now (λ t. plain_span text at x w)
+  bare : unsigned first ≡ digits
+  bare = unsigned_is (minus_at text at) digits (λ t. plain_span text at x w)
 
-  no_number : length x.number.digits.now ≡ 0 → is_number x.number.digits.now ≡ false
+  no_number : length digits ≡ 0 → is_number digits ≡ false
   unfolding is_number is_empty
-  no_number = go x.number.digits.now
+  no_number = go digits
     where
       go : (d : List ℕ) → length d ≡ 0 → is_number d ≡ false
       go [] e = refl
       go (b ∷ d) e = absurd (omega (arith, e))
 
-  a_number : (length x.number.digits.now ≡ 0 → ⊥) → is_number x.number.digits.now ≡ true
+  a_number : (length digits ≡ 0 → ⊥) → is_number digits ≡ true
   a_number some =
       some_digits text x.start x.number w.whole (λ e. some (omega (arith, e)))
 
@@ -78,20 +84,20 @@ module _ (text : List ℕ) (at : ℕ) (x : LineWord) (w : WordAt text at x) wher
       go true e = omega (arith, e)
       go false e = omega (arith, e)
 
-  pub ends_inside : ended text at ≡ true → (x.start + length x.number.digits.now) < length text
-  ends_inside h = go (bool_cases (ltb (x.start + length x.number.digits.now) (length text)))
+  pub ends_inside : ended text at ≡ true → end < length text
+  ends_inside h = go (bool_cases (ltb end (length text)))
     where
-      go : (ltb (x.start + length x.number.digits.now) (length text) ≡ true) ⊎ (ltb (x.start + length x.number.digits.now) (length text) ≡ false) → (x.start + length x.number.digits.now) < length text
-      go (inl t) = ltb-true (x.start + length x.number.digits.now) (length text) t
-      go (inr t) = absurd (true≢false (sym h ∙ word_cut text at x w (ltb-false (x.start + length x.number.digits.now) (length text) t)))
+      go : (ltb end (length text) ≡ true) ⊎ (ltb end (length text) ≡ false) → end < length text
+      go (inl t) = ltb-true end (length text) t
+      go (inr t) = absurd (true≢false (sym h ∙ word_cut text at x w (ltb-false end (length text) t)))
 
   -- the last word
   module _ (j : ℕ) where
-    pub last_empty : length x.number.digits.now ≡ 0 → Some (Word j) ≡ last_cause j first
+    pub last_empty : length digits ≡ 0 → Some (Word j) ≡ last_cause j first
     unfolding last_cause
     last_empty h = rw (bare, no_number h)
 
-    module _ (some : length x.number.digits.now ≡ 0 → ⊥) where
+    module _ (some : length digits ≡ 0 → ⊥) where
       last_by : (t : Bool) → is_zero first ≡ t → cond t None (Some NoZero) ≡ last_cause j first
       unfolding last_cause
       last_by t e = rw (bare, a_number some, e)
@@ -99,14 +105,14 @@ module _ (text : List ℕ) (at : ℕ) (x : LineWord) (w : WordAt text at x) wher
       pub last_signed : at < x.start → Some NoZero ≡ last_cause j first
       last_signed h =
           let minus = sym (sign_before text at x w) ∙ lt-ltb at x.start h in
-          last_by false (ap (λ (t : Bool). is_zero (with_sign t x.number.digits.now)) minus ∙ signed_not_zero x.number.digits.now)
+          last_by false (ap (λ (t : Bool). is_zero (with_sign t digits)) minus ∙ signed_not_zero digits)
 
       module _ (plus : x.start ≤ at) where
         unsigned_zero : (t : Bool) → eqb x.number.value 0 ≡ t → is_zero first ≡ t
         unfolding is_zero with_sign
         unsigned_zero t e =
             let no_sign = sym (sign_before text at x w) ∙ le-ltb at x.start plus in
-            ap (λ (s : Bool). is_zero (with_sign s x.number.digits.now)) no_sign
+            ap (λ (s : Bool). is_zero (with_sign s digits)) no_sign
             ∙ (rw (a_number some, sym (value_zero x.number), e))
 
         pub last_value : 0 < x.number.value → Some NoZero ≡ last_cause j first
@@ -115,28 +121,28 @@ module _ (text : List ℕ) (at : ℕ) (x : LineWord) (w : WordAt text at x) wher
         pub last_right : x.number.value ≡ 0 → None ≡ last_cause j first
         last_right h = last_by true (unsigned_zero true (eq-eqb x.number.value 0 h))
 
-  module _ (most j : ℕ) (inside : (x.start + length x.number.digits.now) < length text) where
-    pub line_last : get_or text (x.start + length x.number.digits.now) 0 ≡ newline → words_cause most j (words (line_at text at)) ≡ last_cause j first
+  module _ (most j : ℕ) (inside : end < length text) where
+    pub line_last : get_or text end 0 ≡ newline → words_cause most j (words (line_at text at)) ≡ last_cause j first
     unfolding words_cause
     line_last is = ap (words_cause most j) (word_last text at x w inside is)
 
-    pub line_spoiled : (get_or text (x.start + length x.number.digits.now) 0 ≡ newline → ⊥) → (get_or text (x.start + length x.number.digits.now) 0 ≡ space → ⊥)
+    pub line_spoiled : (get_or text end 0 ≡ newline → ⊥) → (get_or text end 0 ≡ space → ⊥)
         → words_cause most j (words (line_at text at)) ≡ Some (Word j)
     line_spoiled not_newline not_space =
         let on = word_other text at x w inside not_newline not_space in
         let plain = unsigned_is (minus_at text at) on.0 on.4 in
         ap (words_cause most j) on.2 ∙ wrong_first most j _ on.1 (ap is_number plain ∙ on.3)
 
-    module _ (is : get_or text (x.start + length x.number.digits.now) 0 ≡ space) where
+    module _ (is : get_or text end 0 ≡ space) where
       on_space : words_cause most j (words (line_at text at))
-          ≡ inner_cause most j first (words_cause most (suc j) (words (line_at text ((x.start + length x.number.digits.now) + 1))))
-      on_space = ap (words_cause most j) (word_space text at x w inside is) ∙ inner_more most j first (line_at text ((x.start + length x.number.digits.now) + 1))
+          ≡ inner_cause most j first (words_cause most (suc j) (words (line_at text (end + 1))))
+      on_space = ap (words_cause most j) (word_space text at x w inside is) ∙ inner_more most j first (line_at text (end + 1))
 
-      pub inner_empty : length x.number.digits.now ≡ 0 → words_cause most j (words (line_at text at)) ≡ Some (Word j)
+      pub inner_empty : length digits ≡ 0 → words_cause most j (words (line_at text at)) ≡ Some (Word j)
       unfolding inner_cause
       inner_empty h = on_space ∙ (rw (bare, no_number h))
 
-      module _ (some : length x.number.digits.now ≡ 0 → ⊥) where
+      module _ (some : length digits ≡ 0 → ⊥) where
         pub inner_zero : x.number.value ≡ 0 → words_cause most j (words (line_at text at)) ≡ Some (Inner j)
         unfolding inner_cause
         inner_zero h =
@@ -146,26 +152,26 @@ module _ (text : List ℕ) (at : ℕ) (x : LineWord) (w : WordAt text at x) wher
           pub inner_over : most < x.number.value → words_cause most j (words (line_at text at)) ≡ Some (Over j)
           unfolding inner_cause
           inner_over h =
-              let far : most < decimal x.number.digits.now = capped_over most (decimal x.number.digits.now) (omega (arith, x.number.valued)) in
+              let far : most < decimal digits = capped_over most (decimal digits) (omega (arith, x.number.valued)) in
               on_space
               ∙ (rw (
                 bare,
                 a_number some,
                 sym (value_zero x.number),
                 ne_eqb x.number.value 0 not_zero,
-                lt-leb (decimal x.number.digits.now) most far,
+                lt-leb (decimal digits) most far,
               ))
 
           pub inner_on : most < huge → x.number.value ≤ most
-              → words_cause most j (words (line_at text at)) ≡ words_cause most (suc j) (words (line_at text ((x.start + length x.number.digits.now) + 1)))
+              → words_cause most j (words (line_at text at)) ≡ words_cause most (suc j) (words (line_at text (end + 1)))
           unfolding inner_cause
           inner_on small h =
-              let near : decimal x.number.digits.now ≤ most = capped_most most (decimal x.number.digits.now) small (omega (arith, x.number.valued)) in
+              let near : decimal digits ≤ most = capped_most most (decimal digits) small (omega (arith, x.number.valued)) in
               on_space
               ∙ (rw (
                 bare,
                 a_number some,
                 sym (value_zero x.number),
                 ne_eqb x.number.value 0 not_zero,
-                le-leb (decimal x.number.digits.now) most near,
+                le-leb (decimal digits) most near,
               ))
