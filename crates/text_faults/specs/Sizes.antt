@@ -7,7 +7,7 @@ use Rattle.meaning.specs.Lines.{decimal, decimal_on}
 use Rattle.meaning.specs.CircuitText.{Header}
 use Rattle.laws.specs.Basics.{bool_cases}
 use Rattle.lines.specs.declared.number.Number.{Number}
-use Rattle.lines.specs.Numbers.{huge, capped, digits_of, span, worth, Stands}
+use Rattle.lines.specs.Numbers.{huge, capped, digits_of}
 use Rattle.lines.specs.Past.{not_ended}
 use Rattle.text_faults.specs.declared.sizes.Sizes.{Sizes}
 use Rattle.text_faults.specs.Places.{after_line, skip, first_number}
@@ -104,10 +104,10 @@ sum_done sum rest whole none most is = go (capped_cases (sum + rest)) ∙ is
     go (inr (less, at)) = omega (arith, none, at)
 
 -- the number that a line starts with, where it stands
-pub first_is : (text : List ℕ) (x : Number) (at : ℕ) → Stands text x → span text x ≡ digits_of (drop at text)
+pub first_is : (text : List ℕ) (x : Number) (at : ℕ) → x.digits.now ≡ digits_of (drop at text)
     → x.value ≡ capped (first_number text at)
-unfolding first_number worth
-first_is text x at stands is = stands.value ∙ ap (λ (w : List ℕ). capped (decimal w)) is
+unfolding first_number
+first_is text x at is = x.valued ∙ ap (λ (w : List ℕ). capped (decimal w)) is
 
 -- one line more
 pub sum_on : (count : ℕ) (text : List ℕ) (at sum v next r whole : ℕ) → capped (sum + first_sum (suc count) text at) ≡ whole

@@ -1,6 +1,6 @@
 // Why a line of a circuit text is refused.
 ghost use Rattle.std.specs.Prelude.{◌≡◌, ◌<◌, ◌≤◌, length};
-ghost use Rattle.lines.specs.Numbers.{Stands, worth};
+ghost use Rattle.lines.specs.Numbers.{worth};
 ghost use Rattle.text_faults.specs.Definers.{Inside};
 ghost use Rattle.text_faults.specs.Causes.{numbered, header_cause, Row, out, unknown_at, later_cause, uses_cause};
 ghost use Rattle.text_faults.specs.Causes.{twice_cause, after_ranges, range_cause, defined_cause, literals_cause};
@@ -63,12 +63,11 @@ pub fn header_cause(text: &[u8]) -> Cause
 }
 
 // Whether number j of a line, counted from 0, is over 2M+1.
-fn out(text: &[u8], at: usize, width: usize, j: usize, m: Number) -> bool
-    requires row { Row text.now at width }
-    requires stands { Stands text.now m }
-    ensures { result ≡ out text.now at width j (worth text.now m) }
+fn out(text: &[u8], at: usize, width: usize, j: usize, m: &Number) -> bool
+    requires { Row text.now at width }
+    ensures { result ≡ out text.now at width j (worth m.now) }
 {
-    j < width && !used_right(text, m, nth(text, at, j))
+    j < width && !used_right(m, &nth(text, at, j))
 }
 
 // Whether no line defines the variable of number j.
@@ -77,7 +76,7 @@ fn unknown_at(text: &[u8], at: usize, width: usize, j: usize, p: Places) -> bool
     requires inside { Inside text.now p }
     ensures { result ≡ unknown_at text.now at width j p }
 {
-    j < width && !known_here(text, p, nth(text, at, j))
+    j < width && !known_here(text, p, &nth(text, at, j))
 }
 
 // The numbers after the first.
@@ -117,7 +116,7 @@ fn twice_cause(text: &[u8], at: usize, width: usize, defines: bool, p: Places) -
     requires width_nonzero { 0 < width }
     ensures { result ≡ twice_cause text.now at width defines p }
 {
-    let found = earlier(text, p, nth(text, at, 0), at);
+    let found = earlier(text, p, &nth(text, at, 0), at);
     if found < at {
         return Cause::Twice(found);
     }
@@ -138,12 +137,11 @@ fn after_ranges(text: &[u8], at: usize, width: usize, defines: bool, p: Places) 
 }
 
 // Its ranges.
-fn range_cause(text: &[u8], at: usize, width: usize, defines: bool, m: Number, p: Places) -> Cause
+fn range_cause(text: &[u8], at: usize, width: usize, defines: bool, m: &Number, p: Places) -> Cause
     requires row { Row text.now at width }
     requires inside { Inside text.now p }
     requires width_nonzero { 0 < width }
-    requires stands { Stands text.now m }
-    ensures { result ≡ range_cause text.now at width defines (worth text.now m) p }
+    ensures { result ≡ range_cause text.now at width defines (worth m.now) p }
 {
     if out(text, at, width, 0, m) {
         return Cause::Range(1);
@@ -158,15 +156,21 @@ fn range_cause(text: &[u8], at: usize, width: usize, defines: bool, m: Number, p
 }
 
 // A line that defines a variable.
-fn defined_cause(text: &[u8], at: usize, width: usize, defines: bool, m: Number, p: Places) -> Cause
+fn defined_cause(
+    text: &[u8],
+    at: usize,
+    width: usize,
+    defines: bool,
+    m: &Number,
+    p: Places,
+) -> Cause
     requires row { Row text.now at width }
     requires inside { Inside text.now p }
     requires width_nonzero { 0 < width }
-    requires stands { Stands text.now m }
-    ensures { result ≡ defined_cause text.now at width defines (worth text.now m) p }
+    ensures { result ≡ defined_cause text.now at width defines (worth m.now) p }
 {
     let l = nth(text, at, 0);
-    if !is_even(text, l) {
+    if !is_even(&l) {
         return Cause::Odd;
     }
     if l.value < 2 {
@@ -181,14 +185,13 @@ pub fn literals_cause(
     at: usize,
     width: usize,
     defines: bool,
-    m: Number,
+    m: &Number,
     p: Places,
 ) -> Cause
     requires row { Row text.now at width }
     requires inside { Inside text.now p }
     requires width_nonzero { 0 < width }
-    requires stands { Stands text.now m }
-    ensures { result ≡ literals_cause text.now at width defines (worth text.now m) p }
+    ensures { result ≡ literals_cause text.now at width defines (worth m.now) p }
 {
     if defines {
         return defined_cause(text, at, width, defines, m, p);
@@ -202,14 +205,13 @@ pub fn form_cause(
     at: usize,
     width: usize,
     defines: bool,
-    m: Number,
+    m: &Number,
     p: Places,
 ) -> Cause
     requires at_in_bounds { at < length text.now }
     requires inside { Inside text.now p }
     requires le_width { 1 ≤ width }
-    requires stands { Stands text.now m }
-    ensures { result ≡ form_cause text.now at width defines (worth text.now m) p }
+    ensures { result ≡ form_cause text.now at width defines (worth m.now) p }
 {
     if !numbered(text, at, width) {
         return Cause::Numbers(width);

@@ -73,33 +73,32 @@ fn symbol_cause(text: &[u8], at: usize, s: Sizes) -> Cause
 }
 
 // A line that is ended.
-fn closed_cause(text: &[u8], at: usize, kind: Kind, h: Header, s: Sizes) -> Cause
-    requires parts { Parts text.now h }
+fn closed_cause(text: &[u8], at: usize, kind: Kind, h: &Header, s: Sizes) -> Cause
+    requires parts { Parts text.now h.now }
     requires at_in_bounds { at < length text.now }
     requires at_value { ended text.now at ≡ true }
-    ensures { result ≡ closed_cause text.now at kind (header_at text.now h) s h.next }
+    ensures { result ≡ closed_cause text.now at kind (header_at h.now) s h.now.next }
 {
-    let m = h.m;
     let p = places_of(text, s, h.next);
     match kind {
         Kind::Header => Cause::Stuck,
-        Kind::Input => form_cause(text, at, 1, true, m, p),
-        Kind::Latch => latch_cause(text, at, h.newer, m, p),
-        Kind::Output => form_cause(text, at, 1, false, m, p),
-        Kind::Bad => form_cause(text, at, 1, false, m, p),
-        Kind::Constraint => form_cause(text, at, 1, false, m, p),
+        Kind::Input => form_cause(text, at, 1, true, &h.m, p),
+        Kind::Latch => latch_cause(text, at, h.newer, &h.m, p),
+        Kind::Output => form_cause(text, at, 1, false, &h.m, p),
+        Kind::Bad => form_cause(text, at, 1, false, &h.m, p),
+        Kind::Constraint => form_cause(text, at, 1, false, &h.m, p),
         Kind::Count => count_cause(text, at),
-        Kind::Justice => form_cause(text, at, 1, false, m, p),
-        Kind::Fairness => form_cause(text, at, 1, false, m, p),
-        Kind::Gate => form_cause(text, at, 3, true, m, p),
+        Kind::Justice => form_cause(text, at, 1, false, &h.m, p),
+        Kind::Fairness => form_cause(text, at, 1, false, &h.m, p),
+        Kind::Gate => form_cause(text, at, 3, true, &h.m, p),
         Kind::Symbol => symbol_cause(text, at, s),
     }
 }
 
 // A line under a header that is right.
-fn line_cause(text: &[u8], at: usize, kind: Kind, h: Header, s: Sizes) -> Cause
-    requires { Parts text.now h }
-    ensures { result ≡ line_cause text.now at kind (header_at text.now h) s h.next }
+fn line_cause(text: &[u8], at: usize, kind: Kind, h: &Header, s: Sizes) -> Cause
+    requires { Parts text.now h.now }
+    ensures { result ≡ line_cause text.now at kind (header_at h.now) s h.now.next }
 {
     if text.len() <= at {
         return Cause::Missing;
@@ -133,11 +132,11 @@ pub fn circuit_fault(text: &[u8], at: usize) -> Fault
     let Some(h) = read_header(text) else {
         return header_fault(text);
     };
-    let s = sizes_of(text, h);
+    let s = sizes_of(text, &h);
     let kind = kind_of(s, line_number(text, at));
     Fault {
         kind,
-        cause: line_cause(text, at, kind, h, s),
+        cause: line_cause(text, at, kind, &h, s),
     }
 }
 
@@ -148,6 +147,5 @@ pub fn latches_of(text: &[u8]) -> usize
     let Some(h) = read_header(text) else {
         return 0;
     };
-    let l = h.l;
-    below_huge(l.value)
+    below_huge(h.l.value)
 }

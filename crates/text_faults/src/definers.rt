@@ -1,7 +1,7 @@
 // The lines that define a variable, as far as lines start with a number.
 ghost use Rattle.std.specs.Prelude.{◌≡◌, ◌<◌, ◌≤◌, length};
 ghost use Rattle.meaning.specs.Circuit.{var};
-ghost use Rattle.lines.specs.Numbers.{Stands, worth};
+ghost use Rattle.lines.specs.Numbers.{worth};
 ghost use Rattle.text_faults.specs.Definers.{definer, Inside, past_properties, places_of, known_here, earlier};
 
 use crate::places::{after_line, skip};
@@ -52,15 +52,14 @@ pub fn places_of(text: &[u8], s: Sizes, next: usize) -> Places
 }
 
 // The first line from a place on, and before another, whose first number has this literal's variable; that other, where none has.
-pub fn definer(text: &[u8], x: Number, from: usize, to: usize) -> usize
-    requires stands { Stands text.now x }
-    requires to_in_bounds { to ≤ length text.now }
-    ensures { result ≡ definer (length text.now) text.now (var (worth text.now x)) from to }
+pub fn definer(text: &[u8], x: &Number, from: usize, to: usize) -> usize
+    requires { to ≤ length text.now }
+    ensures { result ≡ definer (length text.now) text.now (var (worth x.now)) from to }
 {
     let mut p = from;
     while p < to {
         let y = number_at(text, p);
-        if same_variable(text, x, y) {
+        if same_variable(x, &y) {
             return p;
         }
         p = after_line(text, p);
@@ -69,10 +68,9 @@ pub fn definer(text: &[u8], x: Number, from: usize, to: usize) -> usize
 }
 
 // Whether a literal is a constant, or an input, a latch or a gate has its variable.
-pub fn known_here(text: &[u8], p: Places, x: Number) -> bool
-    requires inside { Inside text.now p }
-    requires stands { Stands text.now x }
-    ensures { result ≡ known_here text.now p (worth text.now x) }
+pub fn known_here(text: &[u8], p: Places, x: &Number) -> bool
+    requires { Inside text.now p }
+    ensures { result ≡ known_here text.now p (worth x.now) }
 {
     if x.value < 2 {
         return true;
@@ -84,11 +82,10 @@ pub fn known_here(text: &[u8], p: Places, x: Number) -> bool
 }
 
 // The first line before a place that defines this literal's variable; the place, where none does.
-pub fn earlier(text: &[u8], p: Places, x: Number, at: usize) -> usize
+pub fn earlier(text: &[u8], p: Places, x: &Number, at: usize) -> usize
     requires inside { Inside text.now p }
-    requires stands { Stands text.now x }
     requires at_in_bounds { at ≤ length text.now }
-    ensures { result ≡ earlier text.now p (worth text.now x) at }
+    ensures { result ≡ earlier text.now p (worth x.now) at }
 {
     let to = p.outputs.min(at);
     let found = definer(text, x, p.inputs, to);

@@ -1,7 +1,7 @@
 // Why a latch line is refused: two numbers and, in edition 1.9, perhaps a third, its start value.
 ghost use Rattle.std.specs.Prelude.{◌≡◌, true, ◌<◌, length};
 ghost use Rattle.meaning.specs.CircuitText.{start_right, latch_form, numbers_at};
-ghost use Rattle.lines.specs.Numbers.{Stands, worth};
+ghost use Rattle.lines.specs.Numbers.{worth};
 ghost use Rattle.text_faults.specs.Definers.{Inside};
 ghost use Rattle.text_faults.specs.Causes.{Row};
 ghost use Rattle.text_faults.specs.Latches.{start_cause, third_cause, latch_numbers, latch_cause};
@@ -21,15 +21,14 @@ fn starts_right(text: &[u8], at: usize) -> bool
     if start.value < 2 {
         return true;
     }
-    is_sum(text, start, 0, nth(text, at, 0))
+    is_sum(&start, 0, &nth(text, at, 0))
 }
 
 // A latch of edition 1.9 with a start value.
-fn start_cause(text: &[u8], at: usize, m: Number, p: Places) -> Cause
+fn start_cause(text: &[u8], at: usize, m: &Number, p: Places) -> Cause
     requires row { Row text.now at 3 }
     requires inside { Inside text.now p }
-    requires stands { Stands text.now m }
-    ensures { result ≡ start_cause text.now at (worth text.now m) p }
+    ensures { result ≡ start_cause text.now at (worth m.now) p }
 {
     if !starts_right(text, at) {
         return Cause::Start;
@@ -38,11 +37,10 @@ fn start_cause(text: &[u8], at: usize, m: Number, p: Places) -> Cause
 }
 
 // A latch with three numbers.
-fn third_cause(text: &[u8], at: usize, newer: bool, m: Number, p: Places) -> Cause
+fn third_cause(text: &[u8], at: usize, newer: bool, m: &Number, p: Places) -> Cause
     requires row { Row text.now at 3 }
     requires inside { Inside text.now p }
-    requires stands { Stands text.now m }
-    ensures { result ≡ third_cause text.now at newer (worth text.now m) p }
+    ensures { result ≡ third_cause text.now at newer (worth m.now) p }
 {
     if newer {
         return start_cause(text, at, m, p);
@@ -61,11 +59,10 @@ fn latch_numbers(newer: bool) -> Cause
 }
 
 // By how many numbers it has.
-pub fn latch_cause(text: &[u8], at: usize, newer: bool, m: Number, p: Places) -> Cause
+pub fn latch_cause(text: &[u8], at: usize, newer: bool, m: &Number, p: Places) -> Cause
     requires at_in_bounds { at < length text.now }
     requires inside { Inside text.now p }
-    requires stands { Stands text.now m }
-    ensures { result ≡ latch_cause text.now at newer (worth text.now m) p }
+    ensures { result ≡ latch_cause text.now at newer (worth m.now) p }
 {
     if numbered(text, at, 2) {
         return literals_cause(text, at, 2, true, m, p);

@@ -1,12 +1,10 @@
 // What is wrong with the line of a lemma text at a place.
 ghost use Rattle.std.specs.Prelude.{◌≡◌, true, [], ◌∷◌, ◌<◌, ◌≤◌, length};
 ghost use Rattle.meaning.specs.Lines.{ended, words, line_at};
-ghost use Rattle.lines.specs.Numbers.{span};
 ghost use Rattle.lemma_text.specs.Words.{WordAt, minus_at, with_sign};
 ghost use Rattle.text_faults.specs.Lemmas.{last_cause, words_cause, lemma_cause};
 
-use lemma_text::line::digits_at;
-use lines::number::Number;
+use lemma_text::line::{Word, word_at};
 use symbols::line::line_end;
 
 // What is wrong. Words of a line are counted from 1.
@@ -20,14 +18,14 @@ pub enum Cause {
 }
 
 // The last word of a line.
-fn last_cause(text: &[u8], p: usize, x: Number, j: usize) -> Option<Cause>
-    requires { WordAt text.now p x }
-    ensures { result ≡ last_cause j (with_sign (minus_at text.now p) (span text.now x)) }
+fn last_cause(text: &[u8], p: usize, x: &Word, j: usize) -> Option<Cause>
+    requires { WordAt text.now p x.now }
+    ensures { result ≡ last_cause j (with_sign (minus_at text.now p) x.now.number.digits.now) }
 {
-    if x.end == x.start {
+    if x.number.digits.is_empty() {
         return Some(Cause::Word(j));
     }
-    if p < x.start || 0 < x.value {
+    if p < x.start || 0 < x.number.value {
         return Some(Cause::NoZero);
     }
     None
@@ -44,19 +42,19 @@ fn words_cause(text: &[u8], at: usize, latches: usize) -> Option<Cause>
     // The words are counted by hand: a `for` over their numbers would need an end that the walk never comes to.
     let mut j: usize = 1;
     loop {
-        let x = digits_at(text, p);
-        let end = x.end;
+        let x = word_at(text, p);
+        let end = x.start + x.number.digits.len();
         let b = text[end];
         if b == b'\n' {
-            return last_cause(text, p, x, j);
+            return last_cause(text, p, &x, j);
         }
-        if b != b' ' || end == x.start {
+        if b != b' ' || x.number.digits.is_empty() {
             return Some(Cause::Word(j));
         }
-        if x.value == 0 {
+        if x.number.value == 0 {
             return Some(Cause::Inner(j));
         }
-        if latches < x.value {
+        if latches < x.number.value {
             return Some(Cause::Over(j));
         }
         p = end + 1;

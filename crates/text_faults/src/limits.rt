@@ -1,7 +1,7 @@
 // Which limit two texts are over, with the number that was met.
 ghost use Rattle.std.specs.Prelude.{◌≡◌, ◌<◌, ◌≤◌, length};
 ghost use Rattle.meaning.specs.Lines.{line_at};
-ghost use Rattle.circuit_text.specs.Header.{Parts, header_at};
+ghost use Rattle.circuit_text.specs.Header.{header_at};
 ghost use Rattle.text_faults.specs.Places.{count_of};
 ghost use Rattle.text_faults.specs.Limits.{long_lemma, lemmas_limit, bads_limit, property_limit, width_limit, header_limit, limit_of};
 
@@ -89,9 +89,8 @@ fn property_limit(outputs: usize, bads: usize, lemmas: &[u8]) -> Limit
 }
 
 // Inputs and gates, then outputs and bad literals, then the lemmas.
-fn width_limit(text: &[u8], h: Header, lemmas: &[u8]) -> Limit
-    requires { Parts text.now h }
-    ensures { result ≡ width_limit (header_at text.now h) lemmas.now }
+fn width_limit(h: &Header, lemmas: &[u8]) -> Limit
+    ensures { result ≡ width_limit (header_at h.now) lemmas.now }
 {
     if 320 < h.i.value || 320 - h.i.value < h.a.value {
         return Limit::Width(h.i.value, h.a.value);
@@ -100,18 +99,16 @@ fn width_limit(text: &[u8], h: Header, lemmas: &[u8]) -> Limit
 }
 
 // The latches, then the rest.
-fn header_limit(text: &[u8], h: Header, lemmas: &[u8]) -> Limit
-    requires { Parts text.now h }
-    ensures { result ≡ header_limit (header_at text.now h) lemmas.now }
+fn header_limit(h: &Header, lemmas: &[u8]) -> Limit
+    ensures { result ≡ header_limit (header_at h.now) lemmas.now }
 {
-    let l = h.l;
-    if l.value == 0 {
+    if h.l.value == 0 {
         return Limit::NoLatch;
     }
-    if 96 < l.value {
-        return Limit::Latches(l.value);
+    if 96 < h.l.value {
+        return Limit::Latches(h.l.value);
     }
-    width_limit(text, h, lemmas)
+    width_limit(h, lemmas)
 }
 
 // The first limit that the texts are over, in the order of the list; the clauses, which are not counted here, where no other is; none, where
@@ -126,5 +123,5 @@ pub fn limit_of(text: &[u8], lemmas: &[u8]) -> Option<Limit>
         return Some(Limit::LongLemmas);
     }
     let h = read_header(text)?;
-    Some(header_limit(text, h, lemmas))
+    Some(header_limit(&h, lemmas))
 }

@@ -49,9 +49,9 @@ fn first_sum(text: &[u8], at: usize, count: usize) -> usize
 }
 
 // Where the counts of the justice properties start.
-fn counts_at(text: &[u8], h: Header) -> usize
-    requires { Parts text.now h }
-    ensures { (result ≡ counts_at text.now (header_at text.now h) h.next) × (result ≤ length text.now) }
+fn counts_at(text: &[u8], h: &Header) -> usize
+    requires { Parts text.now h.now }
+    ensures { (result ≡ counts_at text.now (header_at h.now) h.now.next) × (result ≤ length text.now) }
 {
     let outputs = skip(text, skip(text, h.next, h.i.value), h.l.value);
     let constraints = skip(text, skip(text, outputs, h.o.value), h.b.value);
@@ -59,9 +59,9 @@ fn counts_at(text: &[u8], h: Header) -> usize
 }
 
 // By the header and the counts.
-pub fn sizes_of(text: &[u8], h: Header) -> Sizes
-    requires { Parts text.now h }
-    ensures { result ≡ sizes_of text.now (header_at text.now h) h.next }
+pub fn sizes_of(text: &[u8], h: &Header) -> Sizes
+    requires { Parts text.now h.now }
+    ensures { result ≡ sizes_of text.now (header_at h.now) h.now.next }
 {
     Sizes {
         inputs: h.i.value,

@@ -13,21 +13,21 @@ use Rattle.text_faults.proofs.cause.defined_cause.Goals as goal
 pub returns-then-not-is_even : goal.returns-then-not-is_even
 unfolding defined_cause
 returns-then-not-is_even c =
-    let e = sym (c.is_even.ensures ∙ ap (λ (l : ℕ). eqb (l % 2) 0) c.nth-l.ensures.1) in
+    let e = sym (c.is_even.ensures ∙ ap (λ (l : ℕ). eqb (l % 2) 0) c.nth-l.ensures.0) in
     rw (e ∙ c.if-not-is_even.true)
 
 pub returns-then-l-lt2 : goal.returns-then-l-lt2
 unfolding defined_cause
 returns-then-l-lt2 c =
     let t = c.args.text.now in
-    let e = sym (c.is_even.ensures ∙ ap (λ (l : ℕ). eqb (l % 2) 0) c.nth-l.ensures.1) in
-    let h : get_or (numbers_at t c.args.at) 0 0 < 2 = omega (arith, value_small t c.nth-l.result c.nth-l.ensures.0 c.if-l-lt2.true, c.nth-l.ensures.1) in
+    let e = sym (c.is_even.ensures ∙ ap (λ (l : ℕ). eqb (l % 2) 0) c.nth-l.ensures.0) in
+    let h : get_or (numbers_at t c.args.at) 0 0 < 2 = omega (arith, value_small c.nth-l.result c.if-l-lt2.true, c.nth-l.ensures.0) in
     rw (e ∙ c.if-not-is_even.false, lt-ltb (get_or (numbers_at t c.args.at) 0 0) 2 h)
 
 pub returns : goal.returns
 unfolding defined_cause
 returns c =
     let t = c.args.text.now in
-    let e = sym (c.is_even.ensures ∙ ap (λ (l : ℕ). eqb (l % 2) 0) c.nth-l.ensures.1) in
-    let h : 2 ≤ get_or (numbers_at t c.args.at) 0 0 = omega (arith, value_least t c.nth-l.result c.nth-l.ensures.0 c.if-l-lt2.false, c.nth-l.ensures.1) in
+    let e = sym (c.is_even.ensures ∙ ap (λ (l : ℕ). eqb (l % 2) 0) c.nth-l.ensures.0) in
+    let h : 2 ≤ get_or (numbers_at t c.args.at) 0 0 = omega (arith, value_least c.nth-l.result c.if-l-lt2.false, c.nth-l.ensures.0) in
     rw (e ∙ c.if-not-is_even.false, le-ltb (get_or (numbers_at t c.args.at) 0 0) 2 h) c.range_cause.ensures

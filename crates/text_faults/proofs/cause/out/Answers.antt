@@ -16,4 +16,4 @@ pub returns-then-j-width : goal.returns-then-j-width
 unfolding out
 returns-then-j-width c =
     rw (lt-ltb c.args.j c.args.width c.if-j-width.true)
-    (ap not (c.used_right.ensures ∙ ap (used_right (worth c.args.text.now c.args.m)) c.nth.ensures.1))
+    (ap not (c.used_right.ensures ∙ ap (used_right (worth c.args.m.now)) c.nth.ensures.0))

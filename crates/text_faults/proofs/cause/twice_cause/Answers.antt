@@ -10,12 +10,12 @@ pub returns-then-found-at : goal.returns-then-found-at
 unfolding twice_cause
 returns-then-found-at c =
     let a = c.args in
-    let e = c.earlier-found.ensures ∙ ap (λ (l : ℕ). earlier a.text.now a.p l a.at) c.nth.ensures.1 in
+    let e = c.earlier-found.ensures ∙ ap (λ (l : ℕ). earlier a.text.now a.p l a.at) c.nth.ensures.0 in
     rw (sym e, lt-ltb c.earlier-found.result a.at c.if-found-at.true)
 
 pub returns : goal.returns
 unfolding twice_cause
 returns c =
     let a = c.args in
-    let e = c.earlier-found.ensures ∙ ap (λ (l : ℕ). earlier a.text.now a.p l a.at) c.nth.ensures.1 in
+    let e = c.earlier-found.ensures ∙ ap (λ (l : ℕ). earlier a.text.now a.p l a.at) c.nth.ensures.0 in
     rw (sym e, le-ltb c.earlier-found.result a.at c.if-found-at.false) c.uses_cause.ensures

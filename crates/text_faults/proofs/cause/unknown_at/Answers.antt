@@ -15,4 +15,4 @@ pub returns-then-j-width : goal.returns-then-j-width
 unfolding unknown_at
 returns-then-j-width c =
     rw (lt-ltb c.args.j c.args.width c.if-j-width.true)
-    (ap not (c.known_here.ensures ∙ ap (known_here c.args.text.now c.args.p) c.nth.ensures.1))
+    (ap not (c.known_here.ensures ∙ ap (known_here c.args.text.now c.args.p) c.nth.ensures.0))

@@ -16,5 +16,5 @@ returns c =
     let parts = c.in-Some.ensures.parts in
     let t = c.args.text.now in
     rw (c.in-Some.ensures.right)
-    (fault_is t c.args.at (header_at t h) _ c.sizes_of-s.result c.kind_of-kind.result c.line_cause.result c.line_number.result h.next parts.worths
+    (fault_is t c.args.at (header_at h) _ c.sizes_of-s.result c.kind_of-kind.result c.line_cause.result c.line_number.result h.next parts.worths
     c.line_number.ensures parts.next_is c.sizes_of-s.ensures c.kind_of-kind.ensures c.line_cause.ensures)

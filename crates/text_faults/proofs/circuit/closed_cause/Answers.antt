@@ -15,8 +15,8 @@ returns-in-Input c =
     let a = c.args in
     let t = a.text.now in
     c.form_cause.ensures
-    ∙ ap (form_cause t a.at 1 true (worth t a.h.m)) c.places_of-p.ensures.0
-    ∙ sym (ap (λ (k : Kind). closed_cause t a.at k (header_at t a.h) a.s a.h.next) c.in-Input.is)
+    ∙ ap (form_cause t a.at 1 true (worth a.h.now.m)) c.places_of-p.ensures.0
+    ∙ sym (ap (λ (k : Kind). closed_cause t a.at k (header_at a.h.now) a.s a.h.now.next) c.in-Input.is)
 
 pub returns-in-Latch : goal.returns-in-Latch
 unfolding header_at
@@ -24,8 +24,8 @@ returns-in-Latch c =
     let a = c.args in
     let t = a.text.now in
     c.latch_cause.ensures
-    ∙ ap (latch_cause t a.at a.h.newer (worth t a.h.m)) c.places_of-p.ensures.0
-    ∙ sym (ap (λ (k : Kind). closed_cause t a.at k (header_at t a.h) a.s a.h.next) c.in-Latch.is)
+    ∙ ap (latch_cause t a.at a.h.now.newer (worth a.h.now.m)) c.places_of-p.ensures.0
+    ∙ sym (ap (λ (k : Kind). closed_cause t a.at k (header_at a.h.now) a.s a.h.now.next) c.in-Latch.is)
 
 pub returns-in-Output : goal.returns-in-Output
 unfolding header_at
@@ -33,8 +33,8 @@ returns-in-Output c =
     let a = c.args in
     let t = a.text.now in
     c.form_cause-in-Output.ensures
-    ∙ ap (form_cause t a.at 1 false (worth t a.h.m)) c.places_of-p.ensures.0
-    ∙ sym (ap (λ (k : Kind). closed_cause t a.at k (header_at t a.h) a.s a.h.next) c.in-Output.is)
+    ∙ ap (form_cause t a.at 1 false (worth a.h.now.m)) c.places_of-p.ensures.0
+    ∙ sym (ap (λ (k : Kind). closed_cause t a.at k (header_at a.h.now) a.s a.h.now.next) c.in-Output.is)
 
 pub returns-in-Bad : goal.returns-in-Bad
 unfolding header_at
@@ -42,8 +42,8 @@ returns-in-Bad c =
     let a = c.args in
     let t = a.text.now in
     c.form_cause-in-Bad.ensures
-    ∙ ap (form_cause t a.at 1 false (worth t a.h.m)) c.places_of-p.ensures.0
-    ∙ sym (ap (λ (k : Kind). closed_cause t a.at k (header_at t a.h) a.s a.h.next) c.in-Bad.is)
+    ∙ ap (form_cause t a.at 1 false (worth a.h.now.m)) c.places_of-p.ensures.0
+    ∙ sym (ap (λ (k : Kind). closed_cause t a.at k (header_at a.h.now) a.s a.h.now.next) c.in-Bad.is)
 
 pub returns-in-Constraint : goal.returns-in-Constraint
 unfolding header_at
@@ -51,8 +51,8 @@ returns-in-Constraint c =
     let a = c.args in
     let t = a.text.now in
     c.form_cause-in-Constraint.ensures
-    ∙ ap (form_cause t a.at 1 false (worth t a.h.m)) c.places_of-p.ensures.0
-    ∙ sym (ap (λ (k : Kind). closed_cause t a.at k (header_at t a.h) a.s a.h.next) c.in-Constraint.is)
+    ∙ ap (form_cause t a.at 1 false (worth a.h.now.m)) c.places_of-p.ensures.0
+    ∙ sym (ap (λ (k : Kind). closed_cause t a.at k (header_at a.h.now) a.s a.h.now.next) c.in-Constraint.is)
 
 pub returns-in-Justice : goal.returns-in-Justice
 unfolding header_at
@@ -60,8 +60,8 @@ returns-in-Justice c =
     let a = c.args in
     let t = a.text.now in
     c.form_cause-in-Justice.ensures
-    ∙ ap (form_cause t a.at 1 false (worth t a.h.m)) c.places_of-p.ensures.0
-    ∙ sym (ap (λ (k : Kind). closed_cause t a.at k (header_at t a.h) a.s a.h.next) c.in-Justice.is)
+    ∙ ap (form_cause t a.at 1 false (worth a.h.now.m)) c.places_of-p.ensures.0
+    ∙ sym (ap (λ (k : Kind). closed_cause t a.at k (header_at a.h.now) a.s a.h.now.next) c.in-Justice.is)
 
 pub returns-in-Fairness : goal.returns-in-Fairness
 unfolding header_at
@@ -69,8 +69,8 @@ returns-in-Fairness c =
     let a = c.args in
     let t = a.text.now in
     c.form_cause-in-Fairness.ensures
-    ∙ ap (form_cause t a.at 1 false (worth t a.h.m)) c.places_of-p.ensures.0
-    ∙ sym (ap (λ (k : Kind). closed_cause t a.at k (header_at t a.h) a.s a.h.next) c.in-Fairness.is)
+    ∙ ap (form_cause t a.at 1 false (worth a.h.now.m)) c.places_of-p.ensures.0
+    ∙ sym (ap (λ (k : Kind). closed_cause t a.at k (header_at a.h.now) a.s a.h.now.next) c.in-Fairness.is)
 
 pub returns-in-Gate : goal.returns-in-Gate
 unfolding header_at
@@ -78,5 +78,5 @@ returns-in-Gate c =
     let a = c.args in
     let t = a.text.now in
     c.form_cause-in-Gate.ensures
-    ∙ ap (form_cause t a.at 3 true (worth t a.h.m)) c.places_of-p.ensures.0
-    ∙ sym (ap (λ (k : Kind). closed_cause t a.at k (header_at t a.h) a.s a.h.next) c.in-Gate.is)
+    ∙ ap (form_cause t a.at 3 true (worth a.h.now.m)) c.places_of-p.ensures.0
+    ∙ sym (ap (λ (k : Kind). closed_cause t a.at k (header_at a.h.now) a.s a.h.now.next) c.in-Gate.is)

@@ -9,15 +9,13 @@ use Rattle.text_faults.proofs.definers.known_here.Goals as goal
 pub returns-then-x-lt2 : goal.returns-then-x-lt2
 unfolding known_here
 returns-then-x-lt2 c =
-    let t = c.args.text.now in
-    rw (lt-ltb (worth t c.args.x) 2 (value_small t c.args.x c.requires.stands c.if-x-lt2.true))
+    rw (lt-ltb (worth c.args.x.now) 2 (value_small c.args.x.now c.if-x-lt2.true))
 
 pub returns-then-definer-p : goal.returns-then-definer-p
 unfolding known_here
 returns-then-definer-p c =
-    let t = c.args.text.now in
     rw (
-      le-ltb (worth t c.args.x) 2 (value_least t c.args.x c.requires.stands c.if-x-lt2.false),
+      le-ltb (worth c.args.x.now) 2 (value_least c.args.x.now c.if-x-lt2.false),
       sym c.definer.ensures,
       lt-ltb c.definer.result c.args.p.outputs c.if-definer-p.true,
     )
@@ -25,9 +23,8 @@ returns-then-definer-p c =
 pub returns : goal.returns
 unfolding known_here
 returns c =
-    let t = c.args.text.now in
     rw (
-      le-ltb (worth t c.args.x) 2 (value_least t c.args.x c.requires.stands c.if-x-lt2.false),
+      le-ltb (worth c.args.x.now) 2 (value_least c.args.x.now c.if-x-lt2.false),
       sym c.definer.ensures,
       le-ltb c.definer.result c.args.p.outputs c.if-definer-p.false,
       sym c.definer-2.ensures,

@@ -18,22 +18,23 @@ unfolding limit_of
 returns-then-lemmas-gt65536 c =
     rw (le-ltb 65536 (length c.args.text.now) c.if-text-gt65536.false, lt-ltb 65536 (length c.args.lemmas.now) c.if-lemmas-gt65536.true)
 
-pub returns-in_default : goal.returns-in_default
+pub returns-in_err-h : goal.returns-in_err-h
 unfolding limit_of
-returns-in_default c =
+returns-in_err-h c =
     rw (
       le-ltb 65536 (length c.args.text.now) c.if-text-gt65536.false,
       le-ltb 65536 (length c.args.lemmas.now) c.if-lemmas-gt65536.false,
-      c.in_default.ensures,
+      c.from_residual.ensures,
+      c.in_err-h.ensures,
     )
 
 pub returns : goal.returns
 unfolding limit_of header_at
 returns c =
-    let parts = c.in-Some.ensures.parts in
+    let parts = c.in_ok-h.ensures.parts in
     rw (
       le-ltb 65536 (length c.args.text.now) c.if-text-gt65536.false,
       le-ltb 65536 (length c.args.lemmas.now) c.if-lemmas-gt65536.false,
-      c.in-Some.ensures.right,
+      c.in_ok-h.ensures.right,
     )
     (ap Some (c.header_limit.ensures ∙ ap (λ (h : Header). header_limit h c.args.lemmas.now) parts.worths))

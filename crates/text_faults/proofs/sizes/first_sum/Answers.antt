@@ -23,7 +23,7 @@ loop-done-preserved c =
     let x = c.number_at in
     let less : n - l.done ≡ suc (n - (l.done + 1)) = omega arith in
     let is = sym (ap (λ (m : ℕ). capped (l.sum + first_sum m t l.p)) less) ∙ l.invariant.0 in (
-      sum_on (n - (l.done + 1)) t l.p l.sum _ _ _ _ is (first_is t x.result l.p x.ensures.0 x.ensures.2) c.after_line-p.ensures.0 c.added-sum.ensures.0,
+      sum_on (n - (l.done + 1)) t l.p l.sum _ _ _ _ is (first_is t x.result l.p x.ensures.digits) c.after_line-p.ensures.0 c.added-sum.ensures.0,
       c.after_line-p.ensures.1,
       c.added-sum.ensures.1,
     )
