@@ -6,7 +6,7 @@ ghost use Rattle.uses.specs.Solve.{ready, after_step, Sized, Swept, Solved};
 fn is_ready(
     left: &[u16; 10923],
     right: &[u16; 10923],
-    done: &[u8; 10925],
+    done: &[bool; 10925],
     count: usize,
     i: usize,
 ) -> bool
@@ -14,17 +14,17 @@ fn is_ready(
     requires i_lt_count { i < count }
     ensures { result ≡ ready left.now right.now done.now i }
 {
-    if done[i + 1] != 0 {
+    if done[i + 1] {
         return false;
     }
-    done[usize::from(left[i])] != 0 && done[usize::from(right[i])] != 0
+    done[usize::from(left[i])] && done[usize::from(right[i])]
 }
 
 // Gate i, where it is ready, is worked out: 1, and else 0.
 fn step(
     left: &[u16; 10923],
     right: &[u16; 10923],
-    done: &mut [u8; 10925],
+    done: &mut [bool; 10925],
     count: usize,
     i: usize,
 ) -> usize
@@ -33,14 +33,14 @@ fn step(
     ensures { (result ≡ cond (ready left.now right.now done.old i) 1 0) × (done.new ≡ after_step left.now right.now done.old i) }
 {
     if is_ready(left, right, done, count, i) {
-        done[i + 1] = 1;
+        done[i + 1] = true;
         return 1;
     }
     0
 }
 
 // One round; how many gates it works out.
-fn sweep(left: &[u16; 10923], right: &[u16; 10923], done: &mut [u8; 10925], count: usize) -> usize
+fn sweep(left: &[u16; 10923], right: &[u16; 10923], done: &mut [bool; 10925], count: usize) -> usize
     requires { Sized left.now right.now done.old count }
     ensures { Swept left.now right.now count done.old done.new result }
 {
@@ -51,8 +51,8 @@ fn sweep(left: &[u16; 10923], right: &[u16; 10923], done: &mut [u8; 10925], coun
     made
 }
 
-// Rounds until one works no gate out.
-pub fn solve(left: &[u16; 10923], right: &[u16; 10923], done: &mut [u8; 10925], count: usize)
+// Rounds until one works no gate out: a loop with no count, since how many there are is not known before.
+pub fn solve(left: &[u16; 10923], right: &[u16; 10923], done: &mut [bool; 10925], count: usize)
     requires { Sized left.now right.now done.old count }
     ensures { Solved left.now right.now count done.old done.new }
 {
