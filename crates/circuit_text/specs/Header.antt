@@ -1,6 +1,7 @@
 -- The header as the code finds it: 'aag', a space, and a line of five to nine numbers from there on.
 use Prim.Native.Nat.{ℕ, suc, ◌+◌, ◌≤◌, ◌<◌}
 use Rattle.std.proofs.Common.{arith, subst, ◌∙◌, inl, inr, true≢false}
+use Rattle.std.specs.List.{starts_with}
 use Rattle.std.specs.Prelude.{◌≡◌, ◌⊎◌, Bool, not, ◌&&◌, length, get_or, drop, Option, None, is_some, MatchOption}
 use Rattle.std.proofs.Math.Path.{refl, sym, ap}
 use Rattle.std.proofs.Math.Bool.{true, false}
@@ -30,6 +31,32 @@ use Rattle.circuit_text.specs.declared.header.Header.{Header}
 unfoldable pub starts : List ℕ → Bool
 starts text =
     leb 4 (length text) && (eqb (get_or text 0 0) 97 && (eqb (get_or text 1 0) 97 && (eqb (get_or text 2 0) 103 && eqb (get_or text 3 0) 32)))
+
+and_false : (b : Bool) → (b && false) ≡ false
+and_false true = refl
+and_false false = refl
+
+and_true : (b : Bool) → (b && true) ≡ b
+and_true true = refl
+and_true false = refl
+
+same_byte : (a b : ℕ) → eqb a b ≡ eqb b a
+same_byte a b = go (bool_cases (eqb a b))
+  where
+    go : (eqb a b ≡ true) ⊎ (eqb a b ≡ false) → eqb a b ≡ eqb b a
+    go (inl t) = t ∙ sym (eq-eqb b a (sym (eqb-true a b t)))
+    go (inr t) = t ∙ sym (ne_eqb b a (λ e. eqb-false a b t (sym e)))
+
+-- it is what the library's test of a prefix says
+pub starts_is : (text : List ℕ) → starts_with eqb text (97 ∷ 97 ∷ 103 ∷ 32 ∷ []) ≡ starts text
+unfolding starts
+starts_is [] = refl
+starts_is (a ∷ []) = and_false (eqb 97 a)
+starts_is (a ∷ b ∷ []) = rw (and_false (eqb 97 b)) (and_false (eqb 97 a))
+starts_is (a ∷ b ∷ c ∷ []) = rw (and_false (eqb 103 c), and_false (eqb 97 b)) (and_false (eqb 97 a))
+starts_is (a ∷ b ∷ c ∷ d ∷ text) =
+    rw (and_true (eqb 32 d), same_byte 97 a, same_byte 97 b, same_byte 103 c, same_byte 32 d)
+    (sym (rw (le-leb 4 (suc (suc (suc (suc (length text))))) (omega arith))))
 
 -- the definition's test of the first line
 unfoldable pub header_test : List ℕ → Bool

@@ -28,19 +28,7 @@ pub struct Header<'a> {
 pub fn starts(text: &[u8]) -> bool
     ensures { result ≡ starts text.now }
 {
-    if text.len() < 4 {
-        return false;
-    }
-    if text[0] != b'a' {
-        return false;
-    }
-    if text[1] != b'a' {
-        return false;
-    }
-    if text[2] != b'g' {
-        return false;
-    }
-    text[3] == b' '
+    text.starts_with(b"aag ")
 }
 
 // How many numbers follow 'aag' and its space, if these are five to nine.
