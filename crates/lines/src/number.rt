@@ -55,14 +55,18 @@ pub fn number_at(text: &[u8], at: usize) -> Number<'_>
     ensures digits { result.digits.now ≡ digits_of (drop at text.now) }
     ensures inside { at + length result.digits.now ≤ length text.now }
 {
-    let mut end = at;
     let mut value: usize = 0;
-    while let Some(digit) = digit_at(text, end) {
+    for end in at..text.len() {
+        let Some(digit) = digit_at(text, end) else {
+            return Number {
+                digits: &text[at..end],
+                value,
+            };
+        };
         value = grown(value, digit);
-        end += 1;
     }
     Number {
-        digits: &text[at..end],
+        digits: &text[at..],
         value,
     }
 }
