@@ -53,6 +53,7 @@ fn variable_of(u: usize) -> usize
 fn class_there(kind: usize) -> Class
     ensures { class_of result ≡ (kind_row kind).class }
 {
+    // A kind is whatever two bytes of the file say, so it is a number here.
     if 7 <= kind {
         return Class::Nothing;
     }
@@ -68,6 +69,7 @@ fn unnamed(class: Class, v: usize, n: usize, m: usize) -> Fault
         Class::Nothing | Class::State => Fault::NoState(v, n),
         // v is the next value of the state variable v - n.
         Class::Present if v <= n + n => Fault::NextValue(v, v.saturating_sub(n)),
+        // An arm of its own: as an or-pattern behind the guard its goal has a name that may change.
         Class::Present => Fault::NoVariable(v, n, m, n + n + m),
         Class::Every => Fault::NoVariable(v, n, m, n + n + m),
     }

@@ -110,7 +110,8 @@ fn met(t: Tally, s: Status, values: &mut [u8; 513]) -> Tally
     }
 }
 
-// A pass over so many records, one after another.
+// A pass over so many records, one after another. The three passes stay apart: a closure for what stands next would have to promise all that
+// `Records`, marks and `Denials` do, and each turn would call it.
 pub fn sweep_records(
     file: &[u8],
     start: usize,

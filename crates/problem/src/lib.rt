@@ -25,6 +25,7 @@ pub fn read_problem(file: &[u8]) -> Result<Problem, Refusal>
     }
     let mut w = rules::at_start();
     let mut s = sections::at_start();
+    // A walk by places that jump, up to the record of kind 6: nothing is counted, so `while` is the plainer word.
     while w.before != 6 {
         w = rules::record_at(file, w)?;
         s = s.past(w.before, w.at);

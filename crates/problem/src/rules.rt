@@ -10,7 +10,7 @@ use crate::refusal::{Refusal, Rule};
 use format::{Class, Literal, Problem, Row};
 
 // What is known where a record must start: its place, the kind before it (0: there is none) and how many of that kind there were, the
-// clause records so far (kinds 2 to 5 together), and n and m.
+// clause records so far (kinds 2 to 5 together), and n and m. Kinds are numbers, as `at_start` and `kind_wrong` of the definition have them.
 #[derive(Clone, Copy)]
 pub struct Cursor {
     pub at: usize,

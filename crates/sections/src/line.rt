@@ -19,7 +19,7 @@ use lines::literal::{is_even, used_right};
 use lines::number::{Number, number_at};
 
 // How many numbers a line has; whether the first defines a variable; whether a start value may follow them; whether it is a count and no
-// literal.
+// literal. No enum: `line_of` and `read_section` promise their answer for every form, and an enum of the five below would ask for one of them.
 #[derive(Clone, Copy)]
 pub struct Form {
     pub width: usize,

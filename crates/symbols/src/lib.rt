@@ -33,6 +33,7 @@ pub fn symbols_fault(text: &[u8], counts: Counts, judged: bool, at: usize) -> Re
     ensures { result ≡ fault_of (symbols_fault (length text.now) judged (header_from counts) text.now [] at) }
 {
     let mut p = at;
+    // A walk from line to line, and so by places that jump: nothing is counted by hand.
     while p < text.len() {
         let end = line_end(text, p);
         if text.len() <= end {

@@ -79,6 +79,7 @@ fn named_before(text: &[u8], first: usize, at: usize) -> bool
     let letter = text[at];
     let place = position(text, at);
     let mut p = first;
+    // A walk from line to line, and so by places that jump: nothing is counted by hand.
     while p < at {
         if names(text, p, letter, place) {
             return true;

@@ -8,7 +8,7 @@ ghost use Rattle.told.specs.Answers.{answer_line, list_line, set_line, marks_lin
 use problem::Report;
 use text::{Page, put_row};
 
-// Which job was asked.
+// Which job was asked. `words::Job` has other words besides, and neither crate sees the other: `answers::job_told` ties them by a match.
 #[derive(Clone, Copy)]
 pub enum Job {
     Check,

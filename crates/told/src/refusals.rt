@@ -126,6 +126,7 @@ pub fn refusal_line(
     let mut page = Page::new(out);
     put_head(&mut page, r.number, r.place);
     put_where(&mut page, file, r.number, r.place);
+    // A report has its refusal as the number that the C interface hands over.
     if r.number < 9 {
         put_fault(&mut page, fault_of(file, r.number, r.place));
     } else {

@@ -43,7 +43,7 @@ fn put_clause(page: &mut Page<'_>, file: &[u8], from: usize, count: usize)
     put_literals(page, file, from, count)
 }
 
-// Where the record so many records on starts.
+// Where the record so many records on starts. The search has its own: it promises another thing, and neither crate sees the other.
 fn record_on(file: &[u8], start: usize, position: usize) -> usize
     requires { Inside file.now start (suc position) }
     ensures { Stands file.now start position result }

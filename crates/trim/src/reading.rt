@@ -26,6 +26,7 @@ fn read_all<R: Read>(from: &mut R, buf: &mut [u8]) -> io::Result<usize>
     ensures { IfOk result (λ n. n ≤ length buf.new) }
 {
     let mut done: usize = 0;
+    // A read gives as many bytes as it likes: `done` jumps, and counts no turns.
     while done < buf.len() {
         let n = read_once(from, &mut buf[done..])?;
         if n == 0 {
