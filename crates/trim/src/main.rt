@@ -72,21 +72,23 @@ fn read_words(rt: &HostRuntime) -> Given {
 fn tell_fault(rt: &HostRuntime, order: Order, i: usize) {
     let mut buf = page::room::<{ reading::WORD }>();
     let word = arg(rt, i, &mut buf);
-    let mut page = page::room::<{ page::LINE }>();
-    let end = usage::fault_line(order, word, &mut page);
-    let _shown = page::show(rt, Stream::Errors, &page, end);
+    let _shown = page::told::<{ page::LINE }, _>(
+        rt,
+        Stream::Errors,
+        |page| usage::fault_line(order, word, page),
+    );
 }
 
 fn tell_help(rt: &HostRuntime) {
-    let mut page = page::room::<{ page::HELP }>();
-    let end = usage::help_text(&mut page);
-    let _shown = page::show(rt, Stream::Output, &page, end);
+    let _shown = page::told::<{ page::HELP }, _>(rt, Stream::Output, |page| usage::help_text(page));
 }
 
 fn tell_version(rt: &HostRuntime) {
-    let mut page = page::room::<{ page::LINE }>();
-    let end = usage::version_line(&mut page);
-    let _shown = page::show(rt, Stream::Output, &page, end);
+    let _shown = page::told::<{ page::LINE }, _>(
+        rt,
+        Stream::Output,
+        |page| usage::version_line(page),
+    );
 }
 
 // The job on a problem file, or on a circuit and its lemmas.

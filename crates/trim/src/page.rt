@@ -1,6 +1,6 @@
 // Pages: a text is written on one, and its first bytes go out.
 
-ghost use Rattle.std.specs.Prelude.{◌≡◌, ◌≤◌, length};
+ghost use Rattle.std.specs.Prelude.{◌≡◌, ◌≤◌, ◌<◌, ◌^◌, length};
 
 use std::io;
 use std::io::Write;
@@ -68,9 +68,27 @@ pub fn show(rt: &HostRuntime, stream: Stream, page: &[u8], n: usize) -> Result<(
     })
 }
 
-// The first bytes of a page, to standard error, and the system's own words for what failed.
-pub fn fail(rt: &HostRuntime, page: &[u8], n: usize, error: &io::Error) {
-    if let Some(text) = page.get(..n) {
+// A text that is written on a page of its own, and shown.
+pub fn told<const N: usize, F: FnOnce(&mut [u8]) -> usize>(
+    rt: &HostRuntime,
+    stream: Stream,
+    write: F,
+) -> Result<(), Unwritten>
+    requires callable { (page : _) → F.pre write page }
+    requires small { N < 2 ^ 63 }
+{
+    let mut page = room::<N>();
+    let end = write(&mut page);
+    show(rt, stream, &page, end)
+}
+
+// The start of a line, to standard error, and the system's own words for what failed.
+pub fn fail<F: FnOnce(&mut [u8]) -> usize>(rt: &HostRuntime, error: &io::Error, write: F)
+    requires { (page : _) → F.pre write page }
+{
+    let mut page = room::<LINE>();
+    let end = write(&mut page);
+    if let Some(text) = page.get(..end) {
         tell(rt, text, error);
     }
 }

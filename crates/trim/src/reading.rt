@@ -37,18 +37,6 @@ fn read_all<R: Read>(from: &mut R, buf: &mut [u8]) -> io::Result<usize>
     Ok(done)
 }
 
-fn tell_not_opened(rt: &HostRuntime, name: &[u8], error: &io::Error) {
-    let mut page = page::room::<{ page::LINE }>();
-    let end = usage::not_opened(name, &mut page);
-    page::fail(rt, &page, end, error);
-}
-
-fn tell_not_read(rt: &HostRuntime, name: &[u8], error: &io::Error) {
-    let mut page = page::room::<{ page::LINE }>();
-    let end = usage::not_read(name, &mut page);
-    page::fail(rt, &page, end, error);
-}
-
 // Reads a file that is open. What fails is told, and then there is no text.
 fn read_told<'a, R: Read>(
     rt: &HostRuntime,
@@ -59,7 +47,7 @@ fn read_told<'a, R: Read>(
     match read_all(from, buf) {
         Ok(n) => Some(&buf[..n]),
         Err(error) => {
-            tell_not_read(rt, name, &error);
+            page::fail(rt, &error, |page| usage::not_read(name, page));
             None
         }
     }
@@ -81,22 +69,18 @@ pub fn read_named<'a>(rt: &HostRuntime, name: &[u8], buf: &'a mut [u8]) -> Optio
     match open(rt, name) {
         Ok(mut file) => read_told(rt, name, &mut file, buf),
         Err(error) => {
-            tell_not_opened(rt, name, &error);
+            page::fail(rt, &error, |page| usage::not_opened(name, page));
             None
         }
     }
 }
 
-fn tell_circuit_alone(rt: &HostRuntime, name: &[u8]) {
-    let mut page = page::room::<{ page::LINE }>();
-    let end = usage::circuit_alone(name, &mut page);
-    let _shown = page::show(rt, Stream::Errors, &page, end);
-}
-
 // A circuit is no problem file.
 fn work_file(rt: &HostRuntime, order: Order, name: &[u8], file: &[u8]) {
     if spelling::is_circuit(file) {
-        tell_circuit_alone(rt, name);
+        let _shown = page::told::<{ page::LINE }, _>(rt, Stream::Errors, |page| {
+            usage::circuit_alone(name, page)
+        });
         return;
     }
     telling::answer(rt, order, file);

@@ -18,15 +18,15 @@ struct Telling<'a> {
 
 impl<'a> Telling<'a> {
     fn head(self, r: Report, lent: &[u8]) -> Result<(), Unwritten> {
-        let mut page = page::room::<{ page::LINE }>();
-        let end = told_lines::head_text(self.order.marks, self.job, self.file, r, lent, &mut page);
-        page::show(self.rt, Stream::Output, &page, end)
+        page::told::<{ page::LINE }, _>(self.rt, Stream::Output, |page| {
+            told_lines::head_text(self.order.marks, self.job, self.file, r, lent, page)
+        })
     }
 
     fn lemma(self, position: usize) -> Result<(), Unwritten> {
-        let mut page = page::room::<{ page::LINE }>();
-        let end = told_lemmas::lemma_line(self.file, position, &mut page);
-        page::show(self.rt, Stream::Output, &page, end)
+        page::told::<{ page::LINE }, _>(self.rt, Stream::Output, |page| {
+            told_lemmas::lemma_line(self.file, position, page)
+        })
     }
 
     // The lemmas that are marked, by position.
@@ -40,9 +40,9 @@ impl<'a> Telling<'a> {
     }
 
     fn set_line(self, number: usize, set: &[u8]) -> Result<(), Unwritten> {
-        let mut page = page::room::<{ page::LINE }>();
-        let end = told_lines::set_text(self.order.marks, self.job, number, set, &mut page);
-        page::show(self.rt, Stream::Output, &page, end)
+        page::told::<{ page::LINE }, _>(self.rt, Stream::Output, |page| {
+            told_lines::set_text(self.order.marks, self.job, number, set, page)
+        })
     }
 
     fn set(self, number: usize, set: &[u8]) -> Result<(), Unwritten> {
@@ -71,17 +71,10 @@ impl<'a> Telling<'a> {
     }
 
     fn error(self, r: Report) -> Result<(), Unwritten> {
-        let mut page = page::room::<{ page::LINE }>();
         let order = self.order;
-        let end = told_lines::error_text(
-            self.job,
-            self.file,
-            r,
-            order.budget,
-            order.space,
-            &mut page,
-        );
-        page::show(self.rt, Stream::Errors, &page, end)
+        page::told::<{ page::LINE }, _>(self.rt, Stream::Errors, |page| {
+            told_lines::error_text(self.job, self.file, r, order.budget, order.space, page)
+        })
     }
 
     // The job on lent bytes, and what came of it.

@@ -40,18 +40,19 @@ fn work_file(rt: &HostRuntime, order: Order, file: &[u8]) {
 
 impl<'a> Texts<'a> {
     fn tell_refusal(self, rt: &HostRuntime, number: u32, place: usize) {
-        let mut page = page::room::<{ page::LINE }>();
-        let end = told_texts::text_refusal(
-            self.name,
-            self.circuit,
-            self.other,
-            self.lemmas,
-            number,
-            place,
-            is_of_circuit(number, self.circuit),
-            &mut page,
-        );
-        let _shown = page::show(rt, Stream::Errors, &page, end);
+        let first = is_of_circuit(number, self.circuit);
+        let _shown = page::told::<{ page::LINE }, _>(rt, Stream::Errors, |page| {
+            told_texts::text_refusal(
+                self.name,
+                self.circuit,
+                self.other,
+                self.lemmas,
+                number,
+                place,
+                first,
+                page,
+            )
+        });
     }
 
     // Texts that were read whole.
