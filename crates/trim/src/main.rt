@@ -7,6 +7,8 @@ mod reading;
 mod telling;
 mod texts;
 
+ghost use Rattle.std.specs.Prelude.{◌≤◌, length};
+
 use page::Stream;
 use std::env::FillError;
 use std::rt::Env;
@@ -33,7 +35,9 @@ fn arg_count(rt: &HostRuntime) -> usize {
 }
 
 // A word, read into buf: an empty one where it is missing or longer than buf, and no place takes that.
-pub fn arg<'a>(rt: &HostRuntime, i: usize, buf: &'a mut [u8]) -> &'a [u8] {
+pub fn arg<'a>(rt: &HostRuntime, i: usize, buf: &'a mut [u8]) -> &'a [u8]
+    ensures { length result.now ≤ length buf.old }
+{
     match rt.arg(i, buf) {
         Ok(n) => &buf[..n],
         Err(_) => &[],
