@@ -15,9 +15,9 @@ decide-requires c = (c.parts_of.ensures.sound, ap length c.none_set.ensures ∙ 
 
 pub returns : goal.returns
 returns c =
-    let cs = parts_clauses c.args.file.now c.args.s.on c.parts_of.result in
+    let cs = parts_clauses c.args.of.now.file.now c.args.s.on c.parts_of.result in
     c.decide.ensures ∙
     ap (λ (v : Setting). bounded c.args.left (answer (search_at cs v))) c.none_set.ensures ∙
     ap (bounded c.args.left)
-    (asked_here c.args.file.now c.args.p c.requires.0 (marks_at c.args.p.k c.args.s) (question_of c.args.q) cs
+    (asked_here c.args.of.now.file.now c.args.of.now.problem c.args.of.now.placed (marks_at c.args.of.now.problem.k c.args.s) (question_of c.args.q) cs
     (c.parts_of.ensures.same c.args.s.on))
