@@ -30,4 +30,4 @@ returns c =
     ∙ ap finish c.node-end.ensures.is
     ∙ call_safe _ _ _ _ _ c.in-Ok.ensures (true_of_not _ c.if-not-top.false) _ _
     (add-one _ ∙ ap suc c.count-fuel.ensures.0)
-    (every_mark _ _ false c.nothing.ensures c.requires.placed.k_in)
+    (every_mark _ _ false c.nothing.ensures c.args.of.now.placed.k_in)
