@@ -1,5 +1,5 @@
--- That a problem stands in its file has one proof at most, so a value may keep it.
-use Rattle.std.specs.Prelude.{ℕ, zero, suc, ◌+◌, ◌≤◌, List, [], ◌∷◌}
+-- That a problem stands in its file, and that a question's clauses can be read there, has one proof at most, so a value may keep it.
+use Rattle.std.specs.Prelude.{ℕ, zero, suc, List, [], ◌∷◌}
 use Rattle.std.specs.Coded.{×_prop, Unit-prop, le_prop}
 use Rattle.std.proofs.Common.{arith, inl, inr}
 use Rattle.std.proofs.Math.Path.{ap}
@@ -7,7 +7,10 @@ use Rattle.meaning.specs.Clauses.{Clause}
 use Rattle.meaning.specs.Meaning
 use Rattle.laws.specs.Within.{ClauseOf, ClausesOf, UpTo, Present, WellFormed}
 use Rattle.format.specs.declared.Problem.{Problem}
-use Rattle.format.specs.Section.{Inside, Placed, next_record, problem_at}
+use Rattle.search.specs.declared.Parts.{Parts}
+use Rattle.passes.specs.Places.{Records, Denials}
+use Rattle.search.specs.Places.{Sound}
+use Rattle.format.specs.Section.{Inside, Placed, next_record}
 
 inside_once : (file : List ℕ) (at count : ℕ) → IsProp (Inside file at count)
 inside_once file at zero = Unit-prop
@@ -52,4 +55,25 @@ placed_once file p a b = λ i. record {
   bad_in = inside_once file _ _ a.bad_in b.bad_in i;
   lemmas_in = inside_once file _ _ a.lemmas_in b.lemmas_in i;
   well_formed = well_formed_once _ a.well_formed b.well_formed i;
+}
+
+records_once : (file : List ℕ) (at count : ℕ) → IsProp (Records file at count)
+records_once file at count a b = λ i. record {
+  inside = inside_once file at count a.inside b.inside i;
+  within = clauses_once (UpTo _) (up_to_once _) _ a.within b.within i;
+}
+
+denials_once : (file : List ℕ) (at count added : ℕ) → IsProp (Denials file at count added)
+denials_once file at count added a b = λ i. record {
+  inside = le_prop a.inside b.inside i;
+  within = clause_once (UpTo _) (up_to_once _) _ a.within b.within i;
+}
+
+pub sound_once : (file : List ℕ) (q : Parts) → IsProp (Sound file q)
+sound_once file q a b = λ i. record {
+  first = records_once file _ _ a.first b.first i;
+  lemmas = records_once file _ _ a.lemmas b.lemmas i;
+  few = le_prop a.few b.few i;
+  last = records_once file _ _ a.last b.last i;
+  deny = denials_once file _ _ _ a.deny b.deny i;
 }

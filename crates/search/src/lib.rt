@@ -3,12 +3,13 @@
 #![tactic(auto)]
 
 pub use asked::Asked;
-
+use clauses::Clauses;
 use engine::decide;
 use format::Section;
 use places::parts_of;
 
 mod asked; // a problem in its file
+mod clauses; // the clauses of a question
 mod engine; // the search
 mod places; // where a question's clauses stand
 mod values; // settings by value
@@ -78,5 +79,10 @@ pub fn ask(of: &Asked<'_>, s: Marks, q: Question, left: u64) -> Result<Answer, S
     requires { Among of.now.problem.k q }
     ensures { result ≡ bounded left (asked (problem_at of.now.file.now of.now.problem) (marks_at of.now.problem.k s) (question_of q)) }
 {
-    decide(of.file, &s.on, parts_of(of, q), Setting::none_set(), left)
+    let clauses = Clauses {
+        file: of.file,
+        on: &s.on,
+        parts: parts_of(of, q),
+    };
+    decide(&clauses, Setting::none_set(), left)
 }

@@ -1,17 +1,12 @@
 -- `ask` meets its contract: the search of the question's clauses from the setting in which all is unset.
 use mathlib.Core.Path.{ap, ◌∙◌}
-use lib.ListN.{length}
 use Rattle.meaning.specs.Search.{Setting}
 use Rattle.meaning.specs.Rules.{answer}
-use Rattle.laws.specs.Setting.{length_blank}
 use Rattle.search.specs.Forms.{marks_at, question_of, bounded}
 use Rattle.search.specs.Places.{parts_clauses}
 use Rattle.search.specs.Engine.{search_at}
 use Rattle.search.proofs.QuestionLaws.{asked_here}
 use Rattle.search.proofs.ask.Goals as goal
-
-pub decide-requires : goal.decide-requires
-decide-requires c = (c.parts_of.ensures.sound, ap length c.none_set.ensures ∙ length_blank 512)
 
 pub returns : goal.returns
 returns c =
