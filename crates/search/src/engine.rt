@@ -31,6 +31,7 @@ fn sweep_all(q: &Clauses<'_>, values: &mut [u8; 513]) -> Tally
 fn propagate(q: &Clauses<'_>, values: &mut [u8; 513]) -> Tally
     ensures { Ready (clauses_of q.now) (entries values.old) (tally_at result (entries values.new)) }
 {
+    // no `for`: nothing is counted, and the passes end where one forces none
     loop {
         let next = sweep_all(q, values);
         let Tally::Forced = next else {

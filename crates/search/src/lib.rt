@@ -25,7 +25,7 @@ pub struct Setting {
     pub values: [u8; 513],
 }
 
-// A set of positions.
+// A set of positions. The array is as long as the most lemmas: no heap, and how many there are is the problem's k.
 #[derive(Clone, Copy)]
 pub struct Marks {
     pub on: [bool; 128],

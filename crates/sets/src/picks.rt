@@ -16,6 +16,7 @@ use search::{Answer, Asked, Marks, Question, Spent};
 pub struct Judged {
     pub set: Marks,
     pub used: u64,
+    // no Option: the set and the decisions are there in both cases, as `JudgedAll` says
     pub safe: bool,
 }
 

@@ -31,6 +31,7 @@ impl Way {
 pub struct Sifted {
     pub set: Marks,
     pub used: u64,
+    // no Option: the set is there in both cases, as `SiftedAll` says
     pub removed: bool,
 }
 
