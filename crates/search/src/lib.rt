@@ -12,6 +12,7 @@ mod asked; // a problem in its file
 mod clauses; // the clauses of a question
 mod engine; // the search
 mod places; // where a question's clauses stand
+mod positions; // sets by value
 mod values; // settings by value
 
 ghost use Rattle.std.specs.Prelude.{◌≡◌};

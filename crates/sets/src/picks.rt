@@ -7,7 +7,6 @@ ghost use Rattle.sets.specs.Judging.{JudgedFrom, JudgedIs};
 ghost use Rattle.sets.specs.Shrinking.{ShrunkUpto, ShrunkNext};
 ghost use Rattle.sets.specs.Single.{SingleIs};
 
-use crate::members::{everything, less};
 use crate::rounds::{Kept, Way, rounds, sift};
 use search::{Answer, Asked, Marks, Question, Spent};
 
@@ -44,7 +43,7 @@ pub fn judge(of: &Asked<'_>, x: Kept, left: u64) -> Result<Judged, Spent>
 pub fn largest(of: &Asked<'_>, left: u64) -> Result<Kept, Spent>
     ensures { KeptIs of.now.problem.k left (Rules.largest (asks_of of.now) of.now.problem.k) result }
 {
-    let a = sift(of, everything(), Way::First, left)?;
+    let a = sift(of, Marks::all(), Way::First, left)?;
     let r = rounds(of, a.set, left - a.used)?;
     Ok(Kept {
         set: r.set,
@@ -65,7 +64,7 @@ pub fn reduce(of: &Asked<'_>, s: Marks, q: usize, left: u64) -> Result<Judged, S
     requires { q < of.now.problem.k }
     ensures { JudgedIs (asks_of of.now) of.now.problem.k left (Rules.reduced (asks_of of.now) q (marks_of of.now s)) result }
 {
-    let x = rounds(of, less(s, q, of.problem.k), left)?;
+    let x = rounds(of, s.without(q), left)?;
     judge(of, x, left)
 }
 

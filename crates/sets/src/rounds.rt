@@ -4,7 +4,7 @@ ghost use Rattle.meaning.specs.Rules;
 ghost use Rattle.sets.specs.Asks.{marks_of, asks_of};
 ghost use Rattle.sets.specs.Forms.{DoneUpto, DoneNext, Done, KeptIs, way_of};
 
-use crate::members::{count, less};
+use crate::members::count;
 use search::{Answer, Asked, Marks, Question, Spent};
 
 // What a sifting asks of each position: its initiation, or its step. No closure: a caller would have to prove what it asks, which `way_of` says.
@@ -61,7 +61,7 @@ fn sift_at(
     let a = search::ask(of, s, way.question(d), left - done.used)?;
     match a {
         Answer::Yes(u) => Ok(Sifted {
-            set: less(done.set, d, of.problem.k),
+            set: done.set.without(d),
             used: done.used + u,
             removed: true,
         }),
@@ -94,7 +94,7 @@ pub fn rounds(of: &Asked<'_>, s: Marks, left: u64) -> Result<Kept, Spent>
 {
     let mut set = s;
     let mut used: u64 = 0;
-    let fuel = count(s, of.problem.k) + 1;
+    let fuel = count(&s.on[..of.problem.k]) + 1;
     for _ in 0..fuel {
         let r = sift(of, set, Way::Round, left - used)?;
         used += r.used;

@@ -8,6 +8,7 @@ use Rattle.sets.specs.Keeping.{RoundsLeft, rounds_start, rounds_out, round_spent
 use Rattle.sets.proofs.rounds.rounds.Goals as goal
 
 pub loop-init : goal.loop-init
+unfolding marks_at
 loop-init c =
     let all : c.count-fuel.result + 1 - 0 ≡ suc c.count-fuel.result = omega arith in
     (rounds_start _ _ _ (all ∙ ap suc c.count-fuel.ensures.0), omega arith)

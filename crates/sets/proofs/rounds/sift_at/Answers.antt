@@ -8,7 +8,7 @@ use lib.ListN.{length}
 use Rattle.sets.specs.Asks.{marks_at, asks}
 use Rattle.search.specs.declared.Marks.{Marks}
 use Rattle.sets.specs.Forms.{way_asks}
-use Rattle.sets.specs.SetLaws.{marks_long, has_on}
+use Rattle.sets.specs.SetLaws.{marks_long, has_on, less_at}
 use Rattle.sets.specs.Told.{told_by, told_as}
 use Rattle.sets.specs.Sifting.{sift_skip, sift_fall, sift_stay, sift_spent}
 use borrow.Author.Rules.{rules}
@@ -62,9 +62,9 @@ returns-in-Yes c =
     (ap Ok c.in-Yes.is) in
     sift_fall (way_asks _ a.of.now.problem a.s a.way) a.of.now.problem.k a.left _ a.d
     (long a.of.now.problem.k a.s a.d (search (rules, c.well_formed.1.1.0)) a.of.now.placed.k_in pre.d_lt_k) a.done pre.done_upto
-    c.less.result
+    c.without.result
     _
-    c.less.ensures
+    (less_at _ _ _ _ pre.d_lt_k c.without.ensures)
     (has_on a.of.now.problem.k a.s a.d _ pre.d_lt_k c.if-not-s-d.false)
     told.sat
     told.count
