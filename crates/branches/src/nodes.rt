@@ -1,14 +1,13 @@
 // The nodes of a listing: a node and the two below it, row by row into the lent bytes, until the budget or the space ends.
 ghost use Rattle.std.specs.Prelude.{◌≡◌, ◌&&◌, not, false, ◌≤◌, ◌<◌, ◌*◌, ℕ, length, get_or};
 ghost use Rattle.meaning.specs.Rules;
-ghost use Rattle.sets.specs.Asks.{marks_at, marks_of, asks_of};
+ghost use Rattle.sets.specs.Asks.{marks_of, asks_of};
 ghost use Rattle.rows.specs.ListingProgress.{Ready, FedBy};
 ghost use Rattle.branches.specs.ListingSets.{place_of, PlaceIn};
 ghost use Rattle.branches.specs.ListingSide.{SideIs};
 
 use rows::found::{Progress, Stop, row_of};
 use search::{Answer, Asked, Marks, Spent};
-use sets::members::{less, more};
 use sets::picks::{Judged, judge};
 use sets::questions::failing;
 use sets::rounds::rounds;
@@ -22,11 +21,10 @@ fn only(a: Marks, s: Marks, d: usize) -> bool
 }
 
 // The lowest position that is in a and not in s.
-fn lowest(a: Marks, s: Marks, k: usize) -> Option<usize>
-    requires { k ≤ 128 }
-    ensures { (place_of result ≡ Rules.lowest 0 (marks_at k a) (marks_at k s)) × PlaceIn k result }
+fn lowest(of: &Asked<'_>, a: Marks, s: Marks) -> Option<usize>
+    ensures { (place_of result ≡ Rules.lowest 0 (marks_of of.now a) (marks_of of.now s)) × PlaceIn of.now.problem.k result }
 {
-    for d in 0..k {
+    for d in 0..of.problem.k {
         if only(a, s, d) {
             return Some(d);
         }
@@ -35,26 +33,19 @@ fn lowest(a: Marks, s: Marks, k: usize) -> Option<usize>
 }
 
 // Whether x contains s: no position is in s and not in x.
-fn contains(x: Marks, s: Marks, k: usize) -> bool
-    requires { k ≤ 128 }
-    ensures { result ≡ Rules.contains (marks_at k x) (marks_at k s) }
+fn contains(of: &Asked<'_>, x: Marks, s: Marks) -> bool
+    ensures { result ≡ Rules.contains (marks_of of.now x) (marks_of of.now s) }
 {
-    lowest(s, x, k).is_none()
+    lowest(of, s, x).is_none()
 }
 
 // X is Rounds of top without q; if X contains base, its safety is asked. Safe stands for both: X contains base, and is safe.
-fn narrowed(
-    of: &Asked<'_>,
-    base: Marks,
-    top: Marks,
-    q: usize,
-    left: u64,
-) -> Result<Judged, Spent>
+fn narrowed(of: &Asked<'_>, base: Marks, top: Marks, q: usize, left: u64) -> Result<Judged, Spent>
     requires { q < of.now.problem.k }
     ensures { SideIs (asks_of of.now) of.now.problem.k left q (marks_of of.now base) (marks_of of.now top) result }
 {
-    let x = rounds(of, less(top, q, of.problem.k), left)?;
-    if !contains(x.set, base, of.problem.k) {
+    let x = rounds(of, top.without(q), left)?;
+    if !contains(of, x.set, base) {
         return Ok(Judged {
             set: x.set,
             used: x.used,
@@ -104,10 +95,10 @@ fn branch(
     requires { Ready of.now.problem.k budget rows.old at }
     ensures { FedBy of.now.problem.k budget (Rules.branch (asks_of of.now) (Rules.lowest 0 (marks_of of.now top) (marks_of of.now base)) (Rules.node (asks_of of.now) fuel) (marks_of of.now base) (marks_of of.now top)) at rows.old rows.new result }
 {
-    let Some(q) = lowest(top, base, of.problem.k) else {
+    let Some(q) = lowest(of, top, base) else {
         return Ok(at);
     };
-    let on = node(of, fuel, more(base, q, of.problem.k), top, rows, at, budget)?;
+    let on = node(of, fuel, base.with(q), top, rows, at, budget)?;
     exclude(of, fuel, q, base, top, rows, on, budget)
 }
 

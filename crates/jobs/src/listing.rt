@@ -11,8 +11,8 @@ use crate::marks::reported;
 use branches::nodes::node;
 use problem::{Report, read_problem};
 use rows::found::{Progress, Stop};
-use search::Asked;
-use sets::members::{count, nothing};
+use search::{Asked, Marks};
+use sets::members::count;
 use sets::picks::largest_judged;
 
 // Complete, or ended by the budget (10) or by a row that doesn't fit (12): in both the rows already found are kept.
@@ -36,12 +36,12 @@ fn list_placed(of: &Asked<'_>, budget: u64, rows: &mut [u8]) -> Report
     if !top.safe {
         return reported(11, 0, top.used, 0);
     }
-    let fuel = count(top.set, of.problem.k) + 1;
+    let fuel = count(&top.set.on[..of.problem.k]) + 1;
     let start = Progress {
         rows: 0,
         used: top.used,
     };
-    let end = node(of, fuel, nothing(), top.set, rows, start, budget);
+    let end = node(of, fuel, Marks::none(), top.set, rows, start, budget);
     finish(end, budget)
 }
 

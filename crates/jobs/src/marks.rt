@@ -29,10 +29,9 @@ pub fn reported(number: u32, place: usize, decisions: u64, rows: usize) -> Repor
 }
 
 // What a marking job leaves: 10 where the budget was used up, 11 where the largest set isn't safe, and else the first k bytes.
-fn leave(found: Result<Judged, Spent>, k: usize, budget: u32, marks: &mut [u8]) -> Report
-    requires k_bound { k ≤ 128 }
-    requires k_in_bounds { k ≤ length marks.old }
-    ensures { outcome_of result marks.new ≡ left_by k budget found marks.old }
+fn leave(of: &Asked<'_>, found: Result<Judged, Spent>, budget: u32, marks: &mut [u8]) -> Report
+    requires { of.now.problem.k ≤ length marks.old }
+    ensures { outcome_of result marks.new ≡ left_by of.now.problem.k budget found marks.old }
 {
     let Ok(x) = found else {
         return reported(10, 0, u64::from(budget), 0);
@@ -40,7 +39,7 @@ fn leave(found: Result<Judged, Spent>, k: usize, budget: u32, marks: &mut [u8]) 
     if !x.safe {
         return reported(11, 0, x.used, 0);
     }
-    write_row(marks, x.set, k);
+    write_row(marks, x.set, of.problem.k);
     reported(0, 0, x.used, 0)
 }
 
@@ -60,7 +59,8 @@ fn marked<F: FnOnce(&Asked<'_>) -> Result<Judged, Spent>>(
             if marks.len() < problem.k {
                 return reported(9, 0, 0, 0);
             }
-            leave(find(&Asked { file, problem }), problem.k, budget, marks)
+            let of = Asked { file, problem };
+            leave(&of, find(&of), budget, marks)
         }
         Err(r) => Report::from(r),
     }

@@ -69,13 +69,7 @@ pub fn reduce(of: &Asked<'_>, s: Marks, q: usize, left: u64) -> Result<Judged, S
 }
 
 // One position of the one set: X is Rounds of S without q; ask safety of X; if unsatisfiable, S becomes X.
-fn shrink_at(
-    of: &Asked<'_>,
-    from: Marks,
-    done: Kept,
-    q: usize,
-    left: u64,
-) -> Result<Kept, Spent>
+fn shrink_at(of: &Asked<'_>, from: Marks, done: Kept, q: usize, left: u64) -> Result<Kept, Spent>
     requires q_lt_k { q < of.now.problem.k }
     requires shrunk_upto { ShrunkUpto (asks_of of.now) of.now.problem.k left (marks_of of.now from) q done }
     ensures { ShrunkNext (asks_of of.now) of.now.problem.k left (marks_of of.now from) (suc q) result }

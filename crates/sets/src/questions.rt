@@ -31,13 +31,7 @@ fn smaller_at(of: &Asked<'_>, s: Marks, q: usize, left: u64) -> Result<Answer, S
 }
 
 // What is asked of the position d, if it is in s; of another one nothing is.
-fn ask_at(
-    of: &Asked<'_>,
-    s: Marks,
-    each: Each,
-    d: usize,
-    left: u64,
-) -> Result<Answer, Spent>
+fn ask_at(of: &Asked<'_>, s: Marks, each: Each, d: usize, left: u64) -> Result<Answer, Spent>
     requires { d < of.now.problem.k }
     ensures { result ≡ bounded left (if_in (has (marks_of of.now s) d) (each_asks (asks_of of.now) (marks_of of.now s) each d)) }
 {

@@ -11,6 +11,7 @@ use mathlib.Core.List.{List}
 use Rattle.meaning.specs.Rules
 use Rattle.laws.specs.Feed
 use Rattle.sets.specs.Asks.{asks_of}
+use Rattle.sets.specs.SetLaws.{more_at}
 use Rattle.sets.specs.Told.{Told, told_by}
 use Rattle.rows.specs.declared.found.Progress.{Progress}
 use Rattle.rows.specs.declared.found.Stop.{Stop}
@@ -49,7 +50,7 @@ branch-returns-in_err-on t c =
     (record {
       is =
           halted _ _ _ _ _
-          ∙ branch_then (asks_of c.args.of.now) _ _ _ _ _ c.requires.in_budget _ _ _ c.in-Some.q c.in-Some.ensures.0 _ c.more.ensures _
+          ∙ branch_then (asks_of c.args.of.now) _ _ _ _ _ c.requires.in_budget _ _ _ c.in-Some.q c.in-Some.ensures.0 _ (more_at _ _ _ _ c.in-Some.ensures.1 c.with.ensures) _
           c.in_err-on.ensures.is;
       sound = tt;
     })
@@ -58,7 +59,7 @@ pub branch-returns : goal.branch-returns
 branch-returns t c = record {
   is =
       c.exclude.ensures.is
-      ∙ branch_then (asks_of c.args.of.now) _ _ _ _ _ c.requires.in_budget _ _ _ c.in-Some.q c.in-Some.ensures.0 _ c.more.ensures _
+      ∙ branch_then (asks_of c.args.of.now) _ _ _ _ _ c.requires.in_budget _ _ _ c.in-Some.q c.in-Some.ensures.0 _ (more_at _ _ _ _ c.in-Some.ensures.1 c.with.ensures) _
       c.in_ok-on.ensures.is;
   sound = sound_in _ _ c.exclude.result c.node.auto.rows c.exclude.ensures.sound;
 }

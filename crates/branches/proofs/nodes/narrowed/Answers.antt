@@ -7,6 +7,7 @@ use Rattle.meaning.specs.Meaning
 use Rattle.meaning.specs.Rules.{rounds, reduced}
 use Rattle.sets.specs.Asks.{marks_at, asks_of}
 use Rattle.sets.specs.Forms.{KeptIs}
+use Rattle.sets.specs.SetLaws.{less_at}
 use Rattle.branches.specs.ListingSide.{side_spent, side_shut, side_judged}
 use Rattle.branches.proofs.nodes.narrowed.Goals.{In_ok-x}
 use Rattle.branches.proofs.nodes.narrowed.Goals as goal
@@ -21,13 +22,13 @@ unfolding reduced
 kept c =
     let a = c.args in
     subst (λ (S : Meaning.Marks). KeptIs a.of.now.problem.k a.left (rounds (asks_of a.of.now) S) (Ok c.in_ok-x.x))
-    c.less.ensures c.in_ok-x.ensures
+    (less_at _ _ _ _ c.requires c.without.ensures) c.in_ok-x.ensures
 
 pub returns-in_err-x : goal.returns-in_err-x
 unfolding reduced
 returns-in_err-x c =
     let a = c.args in
-    let same = ap (λ (S : Meaning.Marks). (rounds (asks_of a.of.now) S).count) c.less.ensures in
+    let same = ap (λ (S : Meaning.Marks). (rounds (asks_of a.of.now) S).count) (less_at a.of.now.problem.k _ _ _ c.requires c.without.ensures) in
     let p = err_from_is_err_and c.from_residual.result c.from_residual.ensures.1 in
     rw p.1 (side_spent (asks_of a.of.now) a.of.now.problem.k a.left a.q (marks_at a.of.now.problem.k a.base) (marks_at a.of.now.problem.k a.top) (subst (λ (n : ℕ). a.left < n) same c.in_err-x.ensures))
 
