@@ -12,8 +12,8 @@ use Rattle.meaning.specs.Meaning
 use Rattle.meaning.specs.Rules.{Question, Answer, Counted, largest, one}
 use Rattle.meaning.specs.Calls
 use Rattle.meaning.specs.Calls.{Outcome, refusal, marked, within, with_room, written}
-use Rattle.format.specs.declared.Problem.{Problem}
-use Rattle.format.specs.Section.{Placed, problem_at}
+use Rattle.format.specs.Section.{problem_at}
+use Rattle.search.specs.declared.asked.Asked.{Asked}
 use Rattle.sets.specs.declared.picks.Judged.{Judged}
 use Rattle.jobs.specs.Outcome.{outcome_of, reported_as}
 use Rattle.sets.specs.Asks.{marks_at}
@@ -30,11 +30,12 @@ left_by k budget (Ok x) lent = marked (found_of k x) x.used lent
 left_by k budget (Err s) lent = refusal 10 0 budget 0 lent
 
 -- what is to be found for a job: what the job leaves, where the lent bytes have room, and else it is refused
-abbrev pub Does : List ℕ → ℕ → List ℕ → Job → (Problem → Result Judged Spent → Type 0) → Type 0
-Does file budget lent job Finds =
-    (p : Problem) → Placed file p
-    → (length lent < p.k → refusal 9 0 0 0 lent ≡ job (problem_at file p) lent)
-    × (p.k ≤ length lent → (x : Result Judged Spent) → Finds p x → left_by p.k budget x lent ≡ job (problem_at file p) lent)
+abbrev pub Does : ℕ → List ℕ → Job → (Asked → Result Judged Spent → Type 0) → Type 0
+Does budget lent job Finds =
+    (of : Asked)
+    → (length lent < of.problem.k → refusal 9 0 0 0 lent ≡ job (problem_at of.file.now of.problem) lent)
+    × (of.problem.k ≤ length lent → (x : Result Judged Spent) → Finds of x
+    → left_by of.problem.k budget x lent ≡ job (problem_at of.file.now of.problem) lent)
 
 -- a kept set that counts as safe
 abbrev pub WholeIs : ℕ → ℕ → Counted → Result Judged Spent → Type 0

@@ -3,17 +3,16 @@ ghost use Rattle.std.specs.Prelude.{◌≡◌, ◌≤◌};
 ghost use Rattle.meaning.specs.Rules;
 ghost use Rattle.meaning.specs.Calls;
 ghost use Rattle.meaning.specs.Calls.{list_call};
-ghost use Rattle.format.specs.Section.{Placed};
-ghost use Rattle.sets.specs.Asks.{asks};
+ghost use Rattle.sets.specs.Asks.{asks_of};
 ghost use Rattle.jobs.specs.Outcome.{outcome_of};
 ghost use Rattle.jobs.specs.ListingCall.{report_at};
 
 use crate::marks::reported;
 use branches::nodes::node;
-use format::Problem;
 use problem::{Report, read_problem};
 use rows::found::{Progress, Stop};
-use sets::members::{count, nothing};
+use search::{Asked, Marks};
+use sets::members::count;
 use sets::picks::largest_judged;
 
 // Complete, or ended by the budget (10) or by a row that doesn't fit (12): in both the rows already found are kept.
@@ -28,23 +27,21 @@ fn finish(end: Result<Progress, Stop>, budget: u64) -> Report
 }
 
 // The listing of a problem that stands in its file: the largest set; 11 where it isn't safe; then the node (empty, largest set).
-fn list_placed(file: &[u8], p: Problem, budget: u64, rows: &mut [u8]) -> Report
-    requires placed { Placed file.now p }
-    requires budget_bound { budget ≤ 4294967295 }
-    ensures { outcome_of result rows.new ≡ Calls.listed p.k budget (Rules.listing (asks file.now p) p.k) rows.old }
+fn list_placed(of: &Asked<'_>, budget: u64, rows: &mut [u8]) -> Report
+    ensures { outcome_of result rows.new ≡ Calls.listed of.now.problem.k budget (Rules.listing (asks_of of.now) of.now.problem.k) rows.old }
 {
-    let Ok(top) = largest_judged(file, p, budget) else {
+    let Ok(top) = largest_judged(of, budget) else {
         return reported(10, 0, budget, 0);
     };
     if !top.safe {
         return reported(11, 0, top.used, 0);
     }
-    let fuel = count(top.set, p.k) + 1;
+    let fuel = count(&top.set.on[..of.problem.k]) + 1;
     let start = Progress {
         rows: 0,
         used: top.used,
     };
-    let end = node(file, p, fuel, nothing(), top.set, rows, start, budget);
+    let end = node(of, fuel, Marks::none(), top.set, rows, start, budget);
     finish(end, budget)
 }
 
@@ -54,7 +51,7 @@ pub fn list_all(file: &[u8], budget: u32, rows: &mut [u8]) -> Report
 {
     let read = read_problem(file);
     match read {
-        Ok(p) => list_placed(file, p, u64::from(budget), rows),
+        Ok(problem) => list_placed(&Asked { file, problem }, u64::from(budget), rows),
         Err(r) => Report::from(r),
     }
 }

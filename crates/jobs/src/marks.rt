@@ -1,18 +1,16 @@
 // The two marking jobs: any file, any budget, any length of lent bytes.
 ghost use Rattle.std.specs.Prelude.{◌≡◌, ◌≤◌, length};
+ghost use Rattle.std.specs.Fn.{FnOnceReturnsAt};
 ghost use Rattle.meaning.specs.File.{read};
 ghost use Rattle.meaning.specs.Calls.{largest_call, one_call, on_reading};
 ghost use Rattle.meaning.specs.Rules;
-ghost use Rattle.format.specs.declared.Problem.{Problem};
-ghost use Rattle.format.specs.Section.{Placed};
-ghost use Rattle.sets.specs.Asks.{asks};
+ghost use Rattle.sets.specs.Asks.{asks_of};
 ghost use Rattle.jobs.specs.Outcome.{outcome_of, reported_as};
 ghost use Rattle.jobs.specs.Leaving.{Job, left_by, WholeIs, Does};
 
-use format::Problem;
 use problem::Report;
 use rows::row::write_row;
-use search::Spent;
+use search::{Asked, Spent};
 use sets::picks::{Judged, largest, single};
 
 // What a job returns: its number, 0 where it answered, its place, the decisions counted and, for a listing, the rows kept; no n, m or k.
@@ -31,10 +29,9 @@ pub fn reported(number: u32, place: usize, decisions: u64, rows: usize) -> Repor
 }
 
 // What a marking job leaves: 10 where the budget was used up, 11 where the largest set isn't safe, and else the first k bytes.
-fn leave(found: Result<Judged, Spent>, k: usize, budget: u32, marks: &mut [u8]) -> Report
-    requires k_bound { k ≤ 128 }
-    requires k_in_bounds { k ≤ length marks.old }
-    ensures { outcome_of result marks.new ≡ left_by k budget found marks.old }
+fn leave(of: &Asked<'_>, found: Result<Judged, Spent>, budget: u32, marks: &mut [u8]) -> Report
+    requires { of.now.problem.k ≤ length marks.old }
+    ensures { outcome_of result marks.new ≡ left_by of.now.problem.k budget found marks.old }
 {
     let Ok(x) = found else {
         return reported(10, 0, u64::from(budget), 0);
@@ -42,38 +39,38 @@ fn leave(found: Result<Judged, Spent>, k: usize, budget: u32, marks: &mut [u8]) 
     if !x.safe {
         return reported(11, 0, x.used, 0);
     }
-    write_row(marks, x.set, k);
+    write_row(marks, x.set, of.problem.k);
     reported(0, 0, x.used, 0)
 }
 
 // A marking job: 9 where the lent bytes are fewer than k, and else what was found for the problem that stands in the file.
-fn marked<F: FnOnce(Problem) -> Result<Judged, Spent>>(
+fn marked<F: FnOnce(&Asked<'_>) -> Result<Judged, Spent>>(
     file: &[u8],
     budget: u32,
     marks: &mut [u8],
     find: F,
 ) -> Report
-    requires { (p : Problem) → Placed file.now p → F.pre find p }
-    ensures { (job : Job) → Does file.now budget marks.old job (F.post find) → outcome_of result marks.new ≡ on_reading (read file.now) job marks.old }
+    requires { F.IsAlwaysCallable find }
+    ensures { (job : Job) → Does budget marks.old job (FnOnceReturnsAt F.FnOnce find) → outcome_of result marks.new ≡ on_reading (read file.now) job marks.old }
 {
     let read = problem::read_problem(file);
     match read {
-        Ok(p) => {
-            if marks.len() < p.k {
+        Ok(problem) => {
+            if marks.len() < problem.k {
                 return reported(9, 0, 0, 0);
             }
-            leave(find(p), p.k, budget, marks)
+            let of = Asked { file, problem };
+            leave(&of, find(&of), budget, marks)
         }
         Err(r) => Report::from(r),
     }
 }
 
 // The largest set, whose safety is not asked and doesn't count.
-fn whole(file: &[u8], p: Problem, budget: u32) -> Result<Judged, Spent>
-    requires { Placed file.now p }
-    ensures { WholeIs p.k budget (Rules.largest (asks file.now p) p.k) result }
+fn whole(of: &Asked<'_>, budget: u32) -> Result<Judged, Spent>
+    ensures { WholeIs of.now.problem.k budget (Rules.largest (asks_of of.now) of.now.problem.k) result }
 {
-    let top = largest(file, p, u64::from(budget))?;
+    let top = largest(of, u64::from(budget))?;
     Ok(Judged {
         set: top.set,
         used: top.used,
@@ -85,12 +82,12 @@ fn whole(file: &[u8], p: Problem, budget: u32) -> Result<Judged, Spent>
 pub fn mark_largest(file: &[u8], budget: u32, marks: &mut [u8]) -> Report
     ensures { outcome_of result marks.new ≡ largest_call file.now budget marks.old }
 {
-    marked(file, budget, marks, |p| whole(file, p, budget))
+    marked(file, budget, marks, |of| whole(of, budget))
 }
 
 // Mark one minimal safe inductive subset.
 pub fn mark_one(file: &[u8], budget: u32, marks: &mut [u8]) -> Report
     ensures { outcome_of result marks.new ≡ one_call file.now budget marks.old }
 {
-    marked(file, budget, marks, |p| single(file, p, u64::from(budget)))
+    marked(file, budget, marks, |of| single(of, u64::from(budget)))
 }

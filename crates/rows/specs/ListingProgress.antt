@@ -26,7 +26,6 @@ progress_of budget lent (Err (Full at)) = stopped (refusal 12 0 at.used at.rows 
 
 -- a listing that goes on: the decisions are in the budget, the rows fit; and with no lemma no row was found before
 pub record Ready (k budget : ℕ) (lent : List ℕ) (at : Progress) : Type 0 where
-  pub small : budget ≤ 4294967295
   pub in_budget : at.used ≤ budget
   pub fits : at.rows * k ≤ length lent
   pub first : k ≡ 0 → at.rows ≡ 0

@@ -1,13 +1,11 @@
 // The rows of a listing: where it stands, and a row that was found, put behind those before it or left out.
 ghost use Rattle.std.specs.Prelude.{◌≡◌, ℕ, ◌≤◌, ◌<◌, ◌+◌, ◌*◌, ◌^◌, length};
 ghost use Rattle.meaning.specs.Rules;
-ghost use Rattle.format.specs.Section.{Placed};
-ghost use Rattle.sets.specs.Asks.{marks_at, asks};
+ghost use Rattle.sets.specs.Asks.{marks_at, marks_of, asks_of};
 ghost use Rattle.rows.specs.ListingProgress.{Ready, FedBy, on_after, one_row};
 
 use crate::row::write_row;
-use format::Problem;
-use search::{Answer, Marks, Spent};
+use search::{Answer, Asked, Marks, Spent};
 use sets::questions::{Each, first_yes};
 
 // Where a listing stands: the rows and the decisions so far.
@@ -58,20 +56,18 @@ fn put_row(rows: &mut [u8], s: Marks, k: usize, at: Progress) -> Result<Progress
 // For each q of s by position ask Rounds of s without q and the safety of the result, up to the first unsatisfiable; if there was none, s
 // is the next row.
 pub fn row_of(
-    file: &[u8],
-    p: Problem,
+    of: &Asked<'_>,
     s: Marks,
     rows: &mut [u8],
     at: Progress,
     budget: u64,
 ) -> Result<Progress, Stop>
-    requires placed { Placed file.now p }
-    requires ready { Ready p.k budget rows.old at }
-    ensures { FedBy p.k budget (Rules.row_of (asks file.now p) (marks_at p.k s)) at rows.old rows.new result }
+    requires { Ready of.now.problem.k budget rows.old at }
+    ensures { FedBy of.now.problem.k budget (Rules.row_of (asks_of of.now) (marks_of of.now s)) at rows.old rows.new result }
 {
-    match first_yes(file, p, s, Each::Smaller, budget - at.used) {
+    match first_yes(of, s, Each::Smaller, budget - at.used) {
         Err(Spent) => Err(Stop::Spent(at.rows)),
         Ok(Answer::Yes(u)) => Ok(at.after(u)),
-        Ok(Answer::No(u)) => put_row(rows, s, p.k, at.after(u)),
+        Ok(Answer::No(u)) => put_row(rows, s, of.problem.k, at.after(u)),
     }
 }

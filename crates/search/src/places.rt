@@ -1,11 +1,11 @@
 // Where the clauses of a question stand in the file.
 ghost use Rattle.std.specs.Prelude.{◌≡◌, ◌<◌};
-ghost use Rattle.format.specs.Section.{Inside, Placed};
+ghost use Rattle.format.specs.Section.{Inside};
 ghost use Rattle.search.specs.Forms.{Among};
 ghost use Rattle.search.specs.Places.{place, LemmaAt, Asks};
 
-use crate::{Parts, Question};
-use format::{Problem, Section, two_at};
+use crate::{Asked, Parts, Question};
+use format::{Section, two_at};
 
 // No clause and no literal.
 const NOTHING: Section = Section { at: 0, count: 0 };
@@ -23,24 +23,24 @@ fn record_at(file: &[u8], start: usize, count: usize) -> usize
 }
 
 // Where the literals of the lemma d stand.
-fn lemma_at(file: &[u8], p: Problem, d: usize) -> Section
-    requires placed { Placed file.now p }
-    requires d_lt_k { d < p.k }
-    ensures { LemmaAt file.now p d result }
+fn lemma_at(of: &Asked<'_>, d: usize) -> Section
+    requires { d < of.now.problem.k }
+    ensures { LemmaAt of.now.file.now of.now.problem d result }
 {
-    let at = record_at(file, p.lemmas_at, d);
+    let at = record_at(of.file, of.problem.lemmas_at, d);
     Section {
         at: at + 4,
-        count: two_at(file, at) / 2,
+        count: two_at(of.file, at) / 2,
     }
 }
 
 // Initiation of d: Init, then the negation of each literal of d. Step of S and d: Tr, the lemmas of S by position, then the negated literals of d
 // with n added to each variable. Safety of S: the lemmas of S by position, then Bad.
-pub fn parts_of(file: &[u8], p: Problem, q: Question) -> Parts
-    requires { Placed file.now p × Among p.k q }
-    ensures { Asks file.now p q result }
+pub fn parts_of(of: &Asked<'_>, q: Question) -> Parts
+    requires { Among of.now.problem.k q }
+    ensures { Asks of.now.file.now of.now.problem q result }
 {
+    let p = &of.problem;
     let lemmas = Section {
         at: p.lemmas_at,
         count: p.k,
@@ -50,14 +50,14 @@ pub fn parts_of(file: &[u8], p: Problem, q: Question) -> Parts
             first: p.init,
             lemmas: NOTHING,
             last: NOTHING,
-            denied: lemma_at(file, p, d),
+            denied: lemma_at(of, d),
             added: 0,
         },
         Question::Step(d) => Parts {
             first: p.tr,
             lemmas,
             last: NOTHING,
-            denied: lemma_at(file, p, d),
+            denied: lemma_at(of, d),
             added: p.n,
         },
         Question::Safety => Parts {

@@ -1,5 +1,5 @@
 -- An answer within a budget, after decisions that were used before it; and the position that is not in, of which nothing is asked.
-use Rattle.std.specs.Prelude.{ℕ, ◌+◌, ◌-◌, ◌≤◌, ◌<◌, ◌≡◌, refl, Bool, Ok, Err}
+use Rattle.std.specs.Prelude.{ℕ, ◌+◌, ◌-◌, ◌^◌, ◌≤◌, ◌<◌, ◌≡◌, refl, Bool, Ok, Err}
 use Rattle.std.proofs.Common.{sym, subst, ◌∙◌, true≢false, arith, add_assoc, zero-add}
 use Rattle.std.proofs.Math.Path.{ap}
 use Rattle.std.proofs.Math.Bool.{true, false}
@@ -80,7 +80,7 @@ module _ (left used : ℕ) (a : Answer) (fits : used ≤ left) where
   after_tells (Ok (No u)) t = record { sat = t.sat; count = ap (λ (n : ℕ). used + n) t.count; fits = omega (arith, t.fits) }
   after_tells (Err s) t = omega (arith, t)
 
-  pub after_fits : {f : Held} → left ≤ 4294967295 → Ok f ≡ bounded (left - used) a → Counts used f
+  pub after_fits : {f : Held} → left < 2 ^ 64 → Ok f ≡ bounded (left - used) a → Counts used f
   after_fits {f} most e = go f (told_by (left - used) a e refl)
     where
       go : (g : Held) → Tells (left - used) a (Ok g) → Counts used g

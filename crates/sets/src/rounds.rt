@@ -1,13 +1,11 @@
 // Sifting a set by one question of each position, and Rounds.
 ghost use Rattle.std.specs.Prelude.{◌≡◌, ◌≤◌, ◌<◌, suc};
 ghost use Rattle.meaning.specs.Rules;
-ghost use Rattle.format.specs.Section.{Placed};
-ghost use Rattle.sets.specs.Asks.{marks_at, asks};
+ghost use Rattle.sets.specs.Asks.{marks_of, asks_of};
 ghost use Rattle.sets.specs.Forms.{DoneUpto, DoneNext, Done, KeptIs, way_of};
 
-use crate::members::{count, less};
-use format::Problem;
-use search::{Answer, Marks, Question, Spent};
+use crate::members::count;
+use search::{Answer, Asked, Marks, Question, Spent};
 
 // What a sifting asks of each position: its initiation, or its step. No closure: a caller would have to prove what it asks, which `way_of` says.
 #[derive(Clone, Copy)]
@@ -33,6 +31,7 @@ impl Way {
 pub struct Sifted {
     pub set: Marks,
     pub used: u64,
+    // no Option: the set is there in both cases, as `SiftedAll` says
     pub removed: bool,
 }
 
@@ -45,27 +44,24 @@ pub struct Kept {
 
 // One position more of a sifting: its question is asked of the whole set, and not of what is left of it.
 fn sift_at(
-    file: &[u8],
-    p: Problem,
+    of: &Asked<'_>,
     s: Marks,
     way: Way,
     done: Sifted,
     d: usize,
     left: u64,
 ) -> Result<Sifted, Spent>
-    requires placed { Placed file.now p }
-    requires left_bound { left ≤ 4294967295 }
-    requires d_lt_k { d < p.k }
-    requires done_upto { DoneUpto file.now p s way left d done }
-    ensures { DoneNext file.now p s way left (suc d) result }
+    requires d_lt_k { d < of.now.problem.k }
+    requires done_upto { DoneUpto of.now.file.now of.now.problem s way left d done }
+    ensures { DoneNext of.now.file.now of.now.problem s way left (suc d) result }
 {
     if !s.on[d] {
         return Ok(done);
     }
-    let a = search::ask(file, p, s, way.question(d), left - done.used)?;
+    let a = search::ask(of, s, way.question(d), left - done.used)?;
     match a {
         Answer::Yes(u) => Ok(Sifted {
-            set: less(done.set, d, p.k),
+            set: done.set.without(d),
             used: done.used + u,
             removed: true,
         }),
@@ -78,33 +74,29 @@ fn sift_at(
 }
 
 // A set sifted by one question of each of its positions.
-pub fn sift(file: &[u8], p: Problem, s: Marks, way: Way, left: u64) -> Result<Sifted, Spent>
-    requires placed { Placed file.now p }
-    requires left_bound { left ≤ 4294967295 }
-    ensures { Done file.now p s way left result }
+pub fn sift(of: &Asked<'_>, s: Marks, way: Way, left: u64) -> Result<Sifted, Spent>
+    ensures { Done of.now.file.now of.now.problem s way left result }
 {
     let mut r = Sifted {
         set: s,
         used: 0,
         removed: false,
     };
-    for d in 0..p.k {
-        r = sift_at(file, p, s, way, r, d, left)?;
+    for d in 0..of.problem.k {
+        r = sift_at(of, s, way, r, d, left)?;
     }
     Ok(r)
 }
 
 // Rounds of s: sift it by its step questions until a round removes none. Each round but the last removes one at the least.
-pub fn rounds(file: &[u8], p: Problem, s: Marks, left: u64) -> Result<Kept, Spent>
-    requires placed { Placed file.now p }
-    requires left_bound { left ≤ 4294967295 }
-    ensures { KeptIs p.k left (Rules.rounds (asks file.now p) (marks_at p.k s)) result }
+pub fn rounds(of: &Asked<'_>, s: Marks, left: u64) -> Result<Kept, Spent>
+    ensures { KeptIs of.now.problem.k left (Rules.rounds (asks_of of.now) (marks_of of.now s)) result }
 {
     let mut set = s;
     let mut used: u64 = 0;
-    let fuel = count(s, p.k) + 1;
+    let fuel = count(&s.on[..of.problem.k]) + 1;
     for _ in 0..fuel {
-        let r = sift(file, p, set, Way::Round, left - used)?;
+        let r = sift(of, set, Way::Round, left - used)?;
         used += r.used;
         if !r.removed {
             return Ok(Kept { set, used });

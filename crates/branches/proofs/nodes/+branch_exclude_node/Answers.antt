@@ -10,7 +10,8 @@ use mathlib.Core.Bool.{Bool}
 use mathlib.Core.List.{List}
 use Rattle.meaning.specs.Rules
 use Rattle.laws.specs.Feed
-use Rattle.sets.specs.Asks.{asks}
+use Rattle.sets.specs.Asks.{asks_of}
+use Rattle.sets.specs.SetLaws.{more_at}
 use Rattle.sets.specs.Told.{Told, told_by}
 use Rattle.rows.specs.declared.found.Progress.{Progress}
 use Rattle.rows.specs.declared.found.Stop.{Stop}
@@ -31,7 +32,6 @@ halted k budget R lent (Full at) = refl
 on : (k budget : ℕ) (lent : List ℕ) (at : Progress) → Ready k budget lent at → {a : Rules.Answer} {b : Bool} {u : ℕ}
     → Told (budget - at.used) a b u → Ready k budget lent (on_after at u)
 on k budget lent at ready told = record {
-  small = ready.small;
   in_budget = omega (arith, told.fits, ready.in_budget);
   fits = ready.fits;
   first = ready.first;
@@ -39,8 +39,8 @@ on k budget lent at ready told = record {
 
 pub branch-returns-in_default : goal.branch-returns-in_default
 branch-returns-in_default t c = record {
-  is = branch_none _ _ _ _ _ _ c.requires.ready.in_budget _ _ _ c.in_default.ensures.0;
-  sound = (c.requires.ready.in_budget, c.requires.ready.fits);
+  is = branch_none _ _ _ _ _ _ c.requires.in_budget _ _ _ c.in_default.ensures.0;
+  sound = (c.requires.in_budget, c.requires.fits);
 }
 
 pub branch-returns-in_err-on : goal.branch-returns-in_err-on
@@ -50,7 +50,7 @@ branch-returns-in_err-on t c =
     (record {
       is =
           halted _ _ _ _ _
-          ∙ branch_then (asks c.args.file.now c.args.p) _ _ _ _ _ c.requires.ready.in_budget _ _ _ c.in-Some.q c.in-Some.ensures.0 _ c.more.ensures _
+          ∙ branch_then (asks_of c.args.of.now) _ _ _ _ _ c.requires.in_budget _ _ _ c.in-Some.q c.in-Some.ensures.0 _ (more_at _ _ _ _ c.in-Some.ensures.1 c.with.ensures) _
           c.in_err-on.ensures.is;
       sound = tt;
     })
@@ -59,14 +59,14 @@ pub branch-returns : goal.branch-returns
 branch-returns t c = record {
   is =
       c.exclude.ensures.is
-      ∙ branch_then (asks c.args.file.now c.args.p) _ _ _ _ _ c.requires.ready.in_budget _ _ _ c.in-Some.q c.in-Some.ensures.0 _ c.more.ensures _
+      ∙ branch_then (asks_of c.args.of.now) _ _ _ _ _ c.requires.in_budget _ _ _ c.in-Some.q c.in-Some.ensures.0 _ (more_at _ _ _ _ c.in-Some.ensures.1 c.with.ensures) _
       c.in_ok-on.ensures.is;
   sound = sound_in _ _ c.exclude.result c.node.auto.rows c.exclude.ensures.sound;
 }
 
 pub exclude-returns-in_default : goal.exclude-returns-in_default
 exclude-returns-in_default t c = record {
-  is = exclude_spent (asks c.args.file.now c.args.p) _ _ _ _ _ _ _ _ c.requires.ready.in_budget _ c.in_default.ensures;
+  is = exclude_spent (asks_of c.args.of.now) _ _ _ _ _ _ _ _ c.requires.ready.in_budget _ c.in_default.ensures;
   sound = tt;
 }
 
@@ -75,10 +75,10 @@ exclude-returns-then-not-x t c =
     rw c.after-on.ensures
     (record {
       is =
-          exclude_shut (asks c.args.file.now c.args.p) _ _ _ _ _ _ _ _ c.requires.ready.in_budget _ c.in-Ok.ensures _
+          exclude_shut (asks_of c.args.of.now) _ _ _ _ _ _ _ _ c.requires.ready.in_budget _ c.in-Ok.ensures _
           (false_of_not _ c.if-not-x.true);
       sound = (
-        exclude_used (asks c.args.file.now c.args.p) _ _ _ _ _ c.args.at.rows _ c.args.rows.now c.requires.ready.in_budget _ c.in-Ok.ensures,
+        exclude_used (asks_of c.args.of.now) _ _ _ _ _ c.args.at.rows _ c.args.rows.now c.requires.ready.in_budget _ c.in-Ok.ensures,
         c.requires.ready.fits,
       );
     })
@@ -89,42 +89,42 @@ exclude-returns t c =
     record {
       is =
           fed.is
-          ∙ exclude_open (asks c.args.file.now c.args.p) _ _ _ _ _ _ _ _ c.requires.ready.in_budget _ c.in-Ok.ensures _
+          ∙ exclude_open (asks_of c.args.of.now) _ _ _ _ _ _ _ _ c.requires.ready.in_budget _ c.in-Ok.ensures _
           (true_of_not _ c.if-not-x.false);
       sound = fed.sound;
     }
 
 pub node-returns-then-fuel-eq0 : goal.node-returns-then-fuel-eq0
 node-returns-then-fuel-eq0 t c = record {
-  is = node_none _ _ _ _ _ _ c.requires.ready.in_budget _ _ _ c.if-fuel-eq0.true;
-  sound = (c.requires.ready.in_budget, c.requires.ready.fits);
+  is = node_none _ _ _ _ _ _ c.requires.in_budget _ _ _ c.if-fuel-eq0.true;
+  sound = (c.requires.in_budget, c.requires.fits);
 }
 
 pub node-after-requires : goal.node-after-requires
 node-after-requires t c =
     let told = told_by _ _ c.in-Ok-No.ensures (ap Ok c.in-Ok-No.field-0-is) in
-    omega (arith, told.fits, c.requires.ready.small, c.requires.ready.in_budget)
+    omega (arith, told.fits, c.ranges.budget, c.requires.in_budget)
 
-pub node-row_of-requires-clause-ready : goal.node-row_of-requires-clause-ready
-node-row_of-requires-clause-ready t c =
-    rw c.after.ensures (on _ _ _ _ c.requires.ready (told_by _ _ c.in-Ok-No.ensures (ap Ok c.in-Ok-No.field-0-is)))
+pub node-row_of-requires : goal.node-row_of-requires
+node-row_of-requires t c =
+    rw c.after.ensures (on _ _ _ _ c.requires (told_by _ _ c.in-Ok-No.ensures (ap Ok c.in-Ok-No.field-0-is)))
 
 pub node-after-requires-in-Ok-Yes : goal.node-after-requires-in-Ok-Yes
 node-after-requires-in-Ok-Yes t c =
     let told = told_by _ _ c.in-Ok-Yes.ensures (ap Ok c.in-Ok-Yes.field-0-is) in
-    omega (arith, told.fits, c.requires.ready.small, c.requires.ready.in_budget)
+    omega (arith, told.fits, c.ranges.budget, c.requires.in_budget)
 
-pub node-branch-file-requires : goal.node-branch-file-requires
-node-branch-file-requires t c =
+pub node-branch-of-requires : goal.node-branch-of-requires
+node-branch-of-requires t c =
     let some_left = pos_of_ne-zero c.if-fuel-eq0.false in
     let less : 3 * (c.args.fuel - 1) + 2 < t = omega (arith, c.decreases) in
     let told = told_by _ _ c.in-Ok-Yes.ensures (ap Ok c.in-Ok-Yes.field-0-is) in
-    (less, (c.requires.placed, rw c.after-in-Ok-Yes.ensures (on _ _ _ _ c.requires.ready told)))
+    (less, rw c.after-in-Ok-Yes.ensures (on _ _ _ _ c.requires told))
 
 pub node-returns-in-Err : goal.node-returns-in-Err
 node-returns-in-Err t c = record {
   is =
-      node_spent _ _ _ _ _ _ c.requires.ready.in_budget _ _ _ (pos_of_ne-zero c.if-fuel-eq0.false)
+      node_spent _ _ _ _ _ _ c.requires.in_budget _ _ _ (pos_of_ne-zero c.if-fuel-eq0.false)
       (told_by _ _ c.in-Err.ensures refl);
   sound = tt;
 }
@@ -135,18 +135,18 @@ node-returns-in-Ok-No t c =
     record {
       is =
           fed.is
-          ∙ node_row _ _ _ _ _ _ c.requires.ready.in_budget _ _ _ (pos_of_ne-zero c.if-fuel-eq0.false) _
+          ∙ node_row _ _ _ _ _ _ c.requires.in_budget _ _ _ (pos_of_ne-zero c.if-fuel-eq0.false) _
           (told_by _ _ c.in-Ok-No.ensures (ap Ok c.in-Ok-No.field-0-is));
       sound = fed.sound;
     }
 
 pub node-returns-in-Ok-Yes : goal.node-returns-in-Ok-Yes
 node-returns-in-Ok-Yes t c =
-    let fed = rw c.after-in-Ok-Yes.ensures at c.branch-file.ensures in
+    let fed = rw c.after-in-Ok-Yes.ensures at c.branch-of.ensures in
     record {
       is =
           fed.is
-          ∙ node_below _ _ _ _ _ _ c.requires.ready.in_budget _ _ _ (pos_of_ne-zero c.if-fuel-eq0.false) _
+          ∙ node_below _ _ _ _ _ _ c.requires.in_budget _ _ _ (pos_of_ne-zero c.if-fuel-eq0.false) _
           (told_by _ _ c.in-Ok-Yes.ensures (ap Ok c.in-Ok-Yes.field-0-is));
       sound = fed.sound;
     }

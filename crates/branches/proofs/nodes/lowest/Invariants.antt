@@ -4,4 +4,4 @@ use Rattle.branches.specs.ListingSets.{LowestLeft}
 use Rattle.branches.proofs.nodes.lowest.Given as goal
 
 abbrev pub invariant-loop-d : goal.invariant-loop-d
-invariant-loop-d l = LowestLeft (marks_at l.k l.a) (marks_at l.k l.s) l.d
+invariant-loop-d l = LowestLeft (marks_at l.of.problem.k l.a) (marks_at l.of.problem.k l.s) l.d

@@ -3,9 +3,9 @@ use Prim.Native.Nat.{suc}
 use native.Mathlib.Numerals.{add-one}
 use mathlib.Core.Path.{ap, ◌∙◌}
 use mathlib.Core.Bool.{false}
-use Rattle.laws.specs.Basics.{true_of_not, false_of_not}
 use Rattle.laws.specs.Feed.{finish}
 use Rattle.problem.specs.declared.Report.{Report}
+use Rattle.sets.specs.Asks.{marks_at}
 use Rattle.sets.specs.SetLaws.{every_mark}
 use Rattle.jobs.specs.Outcome.{outcome_of, report_refused}
 use Rattle.jobs.specs.ListingCall.{report_finish, call_spent, call_unsafe, call_safe}
@@ -21,13 +21,14 @@ pub returns-then-not-top : goal.returns-then-not-top
 returns-then-not-top c =
     ap (λ (r : Report). outcome_of r c.args.rows.now) c.reported-then-not-top.ensures
     ∙ report_refused 11 0 c.in-Ok.top.used 0 c.args.rows.now
-    ∙ call_unsafe _ _ _ _ _ c.in-Ok.ensures (false_of_not _ c.if-not-top.true)
+    ∙ call_unsafe _ _ _ _ _ c.in-Ok.ensures c.if-not-top.true
 
 pub returns : goal.returns
+unfolding marks_at
 returns c =
     ap (λ (r : Report). outcome_of r c.node-end.new.rows) c.finish.ensures
     ∙ report_finish c.args.budget c.node-end.new.rows c.node-end.result
     ∙ ap finish c.node-end.ensures.is
-    ∙ call_safe _ _ _ _ _ c.in-Ok.ensures (true_of_not _ c.if-not-top.false) _ _
+    ∙ call_safe _ _ _ _ _ c.in-Ok.ensures c.if-not-top.false _ _
     (add-one _ ∙ ap suc c.count-fuel.ensures.0)
-    (every_mark _ _ false c.nothing.ensures c.requires.placed.k_in)
+    (every_mark _ _ false c.none.ensures c.args.of.now.placed.k_in)

@@ -13,17 +13,17 @@ use Rattle.rows.proofs.found.row_of.Goals as goal
 pub after-requires : goal.after-requires
 after-requires c =
     let told = told_by _ _ c.in-Ok-Yes.ensures (ap Ok c.in-Ok-Yes.field-0-is) in
-    omega (arith, told.fits, c.requires.ready.small, c.requires.ready.in_budget)
+    omega (arith, told.fits, c.ranges.budget, c.requires.in_budget)
 
 pub after-requires-in-Ok-No : goal.after-requires-in-Ok-No
 after-requires-in-Ok-No c =
     let told = told_by _ _ c.in-Ok-No.ensures (ap Ok c.in-Ok-No.field-0-is) in
-    omega (arith, told.fits, c.requires.ready.small, c.requires.ready.in_budget)
+    omega (arith, told.fits, c.ranges.budget, c.requires.in_budget)
 
 pub returns-in-Err : goal.returns-in-Err
 unfolding smaller
 returns-in-Err c = record {
-  is = row_spent _ _ _ _ _ _ c.requires.ready.in_budget _ (told_by _ _ c.in-Err.ensures refl);
+  is = row_spent _ _ _ _ _ _ c.requires.in_budget _ (told_by _ _ c.in-Err.ensures refl);
   sound = tt;
 }
 
@@ -33,8 +33,8 @@ returns-in-Ok-Yes c =
     let told = told_by _ _ c.in-Ok-Yes.ensures (ap Ok c.in-Ok-Yes.field-0-is) in
     rw c.after.ensures
     (record {
-      is = row_smaller _ _ _ _ _ _ c.requires.ready.in_budget _ _ told;
-      sound = (omega (arith, told.fits, c.requires.ready.in_budget), c.requires.ready.fits);
+      is = row_smaller _ _ _ _ _ _ c.requires.in_budget _ _ told;
+      sound = (omega (arith, told.fits, c.requires.in_budget), c.requires.fits);
     })
 
 pub returns-in-Ok-No : goal.returns-in-Ok-No
@@ -44,7 +44,7 @@ returns-in-Ok-No c =
     let told = told_by _ _ c.in-Ok-No.ensures (ap Ok c.in-Ok-No.field-0-is) in
     let used = ap (λ (at : Progress). at.used) c.after-in-Ok-No.ensures in
     let put =
-    subst (λ (at : Progress). FedBy a.p.k a.budget (one_row (marks_at a.p.k a.s)) at a.rows.now c.put_row.new.rows c.put_row.result)
+    subst (λ (at : Progress). FedBy a.of.now.problem.k a.budget (one_row (marks_at a.of.now.problem.k a.s)) at a.rows.now c.put_row.new.rows c.put_row.result)
     c.after-in-Ok-No.ensures
-    (c.put_row.ensures a.budget (omega (arith, used, told.fits, c.requires.ready.in_budget))) in
-    record { is = put.is ∙ row_found _ _ _ _ _ _ c.requires.ready.in_budget _ _ told; sound = put.sound }
+    (c.put_row.ensures a.budget (omega (arith, used, told.fits, c.requires.in_budget))) in
+    record { is = put.is ∙ row_found _ _ _ _ _ _ c.requires.in_budget _ _ told; sound = put.sound }

@@ -1,4 +1,5 @@
 -- `sets::questions::failing` meets its contract: the steps, and then the safety. Assumes nothing.
+use native.Mathlib.Omega.{arith}
 use mathlib.Core.Path.{ap, ◌∙◌}
 use Rattle.std.specs.Prelude.{Ok, Err}
 use Rattle.std.proofs.lemmas.Result.{err_from_is_err_and}
@@ -31,7 +32,7 @@ returns-in_err-b c =
 pub after-requires : goal.after-requires
 after-requires c =
     let told = told_by _ _ c.in_ok-a.ensures (ap Ok c.in-No.is) in
-    after_fits c.args.left c.in-No.used _ told.fits c.requires.left_bound c.in_ok-b.ensures
+    after_fits c.args.left c.in-No.used _ told.fits (omega (arith, c.ranges.left)) c.in_ok-b.ensures
 
 pub returns : goal.returns
 unfolding failing asks marks_at

@@ -13,8 +13,8 @@ use Rattle.sets.specs.ListingFirst.{first_start, first_on, first_ends, first_non
 use Rattle.sets.proofs.questions.first_yes.Goals.{Start}
 use Rattle.sets.proofs.questions.first_yes.Goals as goal
 
-here : (s : Start) (d : ℕ) → d < s.args.p.k → d < length (marks_at s.args.p.k s.args.s)
-here s d h = subst⁻¹ (λ (n : ℕ). d < n) (marks_long s.args.p.k s.args.s (search rules) s.requires.placed.k_in) h
+here : (s : Start) (d : ℕ) → d < s.args.of.now.problem.k → d < length (marks_at s.args.of.now.problem.k s.args.s)
+here s d h = subst⁻¹ (λ (n : ℕ). d < n) (marks_long s.args.of.now.problem.k s.args.s (search rules) s.args.of.now.placed.k_in) h
 
 pub loop-d-init : goal.loop-d-init
 loop-d-init c = (first_start _ _, omega arith)
@@ -27,7 +27,7 @@ returns-in_err-a c =
     (Err c.in_err-a.field-0.0) tt (told_by _ _ c.in_err-a.ensures refl))
 
 pub after-requires : goal.after-requires
-after-requires c = after_fits c.args.left c.loop-d.used _ c.loop-d.invariant.1 c.requires.left_bound c.in_ok-a.ensures
+after-requires c = after_fits c.args.left c.loop-d.used _ c.loop-d.invariant.1 (omega (arith, c.ranges.left)) c.in_ok-a.ensures
 
 pub returns-in_default : goal.returns-in_default
 returns-in_default c =
@@ -38,7 +38,7 @@ returns-in_default c =
 pub overflow_add-used : goal.overflow_add-used
 overflow_add-used c =
     let told = told_by _ _ c.in_ok-a.ensures (ap Ok c.in-No.is) in
-    omega (arith, told.fits, c.loop-d.invariant.1, c.requires.left_bound)
+    omega (arith, told.fits, c.loop-d.invariant.1, c.ranges.left)
 
 pub loop-d-preserved : goal.loop-d-preserved
 loop-d-preserved c =
@@ -50,5 +50,5 @@ loop-d-preserved c =
 pub returns : goal.returns
 returns c =
     let a = c.args in
-    let long = marks_long a.p.k a.s (search rules) c.requires.placed.k_in in
+    let long = marks_long a.of.now.problem.k a.s (search rules) c.args.of.now.placed.k_in in
     first_none _ _ a.left _ c.loop-d.d (omega (arith, long)) c.loop-d.invariant.1 c.loop-d.invariant.0

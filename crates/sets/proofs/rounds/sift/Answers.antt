@@ -15,6 +15,6 @@ loop-d-init c = sift_start _ _ _ _ _ refl
 pub returns : goal.returns
 returns c =
     let a = c.args in
-    let long = marks_long a.p.k a.s (search rules) c.requires.placed.k_in in
-    let at : c.loop-d.d ≡ length (marks_at a.p.k a.s) = omega (arith, long) in
-    sift_end _ _ _ _ _ (subst (λ (n : ℕ). DoneUpto a.file.now a.p a.s a.way a.left n c.loop-d.r) at c.loop-d.invariant)
+    let long = marks_long a.of.now.problem.k a.s (search rules) c.args.of.now.placed.k_in in
+    let at : c.loop-d.d ≡ length (marks_at a.of.now.problem.k a.s) = omega (arith, long) in
+    sift_end _ _ _ _ _ (subst (λ (n : ℕ). DoneUpto a.of.now.file.now a.of.now.problem a.s a.way a.left n c.loop-d.r) at c.loop-d.invariant)
