@@ -1,4 +1,3 @@
-use mathlib.Core.Path.{sym, ◌∙◌}
 use Rattle.std.proofs.lemmas.Result.{err_from_is_err_and}
 use Rattle.circuits.specs.Reading.{found_fault}
 use Rattle.circuits.proofs.reading.read_texts.Goals as goal
