@@ -15,9 +15,9 @@ use Rattle.meaning.specs.Filed.{two, literal_bytes, clause_bytes, record_bytes, 
 use Rattle.clause_count.specs.Lengths.{is_true}
 use Rattle.built.specs.declared.edge.Edge.{Edge}
 use Rattle.built.specs.declared.edge.Edge.TheVariants.{Constant, Named}
-use Rattle.records.specs.Put.{put}
+use Rattle.records.specs.declared.Records.{Records}
+use Rattle.records.specs.Puts.{Puts, HasRoom, Left, left_all, left_is, left_room, left_more}
 use Rattle.built.specs.Edges.{edge_of, is_named}
-use Rattle.built.specs.Wrote.{Wrote, Writing, writing_all, rest_as, part_room, part_left}
 
 -- the bytes of its literal, if it has one
 unfoldable pub edge_bytes : Built.Edge → List ℕ
@@ -29,14 +29,9 @@ unfolding literal_bytes two
 literal_length (pos v) = refl
 literal_length (neg v) = refl
 
--- a constant has none
-pub constant_bytes : (b : Bool) → edge_bytes (constant b) ≡ []
+pub named_room : (l : Literal) {out : Records} → HasRoom (edge_bytes (named l)) out → out.end + 2 ≤ length out.bytes.now
 unfolding edge_bytes
-constant_bytes b = refl
-
-pub named_room : (l : Literal) → length (edge_bytes (named l)) ≡ 2
-unfolding edge_bytes
-named_room l = literal_length l
+named_room l room = omega (arith, room.fits, literal_length l)
 
 -- ---- the clause of edges
 
@@ -126,24 +121,15 @@ bytes_next es i e less is = rw (add-one i, drop-cons es i e less) (ap (λ (f : E
 
 -- ---- a record: its head, and then its body
 
-module _ (kind at : ℕ) (body : List ℕ) (out₀ : List ℕ) (room : at + length (record_bytes kind body) ≤ length out₀) (len : ℕ)
-    (is : len ≡ length body) where
-  headed : Writing (record_bytes kind body) at out₀ ((two len ++ two kind) ++ body) at out₀
+module _ (kind : ℕ) (body : List ℕ) {r : Records} (room : HasRoom (record_bytes kind body) r) (len : ℕ) (is : len ≡ length body) where
+  headed : Left (record_bytes kind body) r ((two len ++ two kind) ++ body) r
   unfolding record_bytes
   headed =
-      rest_as (ap (λ (k : ℕ). two k ++ (two kind ++ body)) (sym is) ∙ sym (append_assoc (two len) (two kind) body))
-      (writing_all (record_bytes kind body) at out₀ room)
+      left_is (left_all room) (ap (λ (k : ℕ). two k ++ (two kind ++ body)) (sym is) ∙ sym (append_assoc (two len) (two kind) body))
 
-  pub head_room : at + 4 ≤ length out₀
+  pub head_room : r.end + 4 ≤ length r.bytes.now
   unfolding two
-  head_room = part_room (two len ++ two kind) body headed
+  head_room = (left_room (two len ++ two kind) body headed).fits
 
-  pub after_head : (out : List ℕ) → out ≡ put at (two len ++ two kind) out₀ → Writing (record_bytes kind body) at out₀ body (at + 4) out
-  unfolding two
-  after_head out made = part_left (two len ++ two kind) body headed (record { end = refl; made = made })
-
--- the literal of an edge that is one
-pub wrote_literal : (l : Literal) (at : ℕ) (out₀ out : List ℕ) → out ≡ put at (literal_bytes l) out₀
-    → Wrote (edge_bytes (named l)) at out₀ (at + 2) out
-unfolding edge_bytes
-wrote_literal l at out₀ out made = record { end = ap (λ (k : ℕ). at + k) (sym (literal_length l)); made = made }
+  pub after_head : {s : Records} → Puts (two len ++ two kind) r s → Left (record_bytes kind body) r body s
+  after_head w = left_more (two len ++ two kind) body headed w

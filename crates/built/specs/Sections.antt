@@ -17,7 +17,7 @@ use Rattle.sections.specs.Whole.{circuit_at, sections_of, lines_of, latch_count}
 use Rattle.clause_count.specs.Start.{start_code, start_in}
 use Rattle.clause_count.specs.Bad.{literals_of}
 use Rattle.built.specs.Turns.{parts}
-use Rattle.built.specs.Wrote.{Three, Two}
+use Rattle.built.specs.Cuts.{Three, Two}
 
 -- ---- the clauses of line i, counted from 0, by its numbers
 

@@ -1,15 +1,15 @@
 // The clause of some edges, as a record: a constant false leaves it, a constant true drops it.
-ghost use Rattle.std.specs.Prelude.{◌≡◌, ◌+◌, ◌<◌, ◌≤◌, length, map};
+ghost use Rattle.std.specs.Prelude.{◌≡◌, ◌<◌, ◌≤◌, length, map};
 ghost use Rattle.std.specs.List.{count_by, list_any};
 ghost use Rattle.meaning.specs.Built.{clause_if};
 ghost use Rattle.meaning.specs.Filed.{clause_records};
 ghost use Rattle.clause_count.specs.Lengths.{is_true};
 ghost use Rattle.built.specs.Edges.{edge_of, is_named};
 ghost use Rattle.built.specs.Clause.{edge_bytes};
-ghost use Rattle.built.specs.Wrote.{Wrote};
+ghost use Rattle.records.specs.Puts.{Puts, HasRoom};
 
 use crate::edge::Edge;
-use records::{put_head, put_literal};
+use records::Records;
 
 // How many of them are literals.
 fn named(edges: &[Edge]) -> usize
@@ -26,33 +26,28 @@ fn has_true(edges: &[Edge]) -> bool
 }
 
 // Writes the literal of an edge, if it is one.
-fn put_edge(out: &mut [u8], at: usize, e: Edge) -> usize
-    requires { at + length (edge_bytes (edge_of e)) ≤ length out.old }
-    ensures { Wrote (edge_bytes (edge_of e)) at out.old result out.new }
+fn put_edge(out: &mut Records<'_>, e: Edge)
+    requires { HasRoom (edge_bytes (edge_of e)) out.old }
+    ensures { Puts (edge_bytes (edge_of e)) out.old out.new }
 {
     match e {
-        Edge::Constant(_) => at,
-        Edge::Named(l) => {
-            put_literal(out, at, l.negative, l.variable);
-            at + 2
-        }
+        Edge::Constant(_) => {}
+        Edge::Named(l) => out.put_literal(l.negative, l.variable),
     }
 }
 
 // Writes the clause of up to three edges, if there is one.
-pub fn put_clause(out: &mut [u8], at: usize, kind: usize, edges: &[Edge]) -> usize
+pub fn put_clause(out: &mut Records<'_>, kind: usize, edges: &[Edge])
     requires kind_bound { kind < 65536 }
     requires edges_bound { length edges.now ≤ 3 }
-    requires edges_in_bounds { at + length (clause_records kind (clause_if (map edge_of edges.now))) ≤ length out.old }
-    ensures { Wrote (clause_records kind (clause_if (map edge_of edges.now))) at out.old result out.new }
+    requires edges_in_bounds { HasRoom (clause_records kind (clause_if (map edge_of edges.now))) out.old }
+    ensures { Puts (clause_records kind (clause_if (map edge_of edges.now))) out.old out.new }
 {
     if has_true(edges) {
-        return at;
+        return;
     }
-    put_head(out, at, 2 * named(edges), kind);
-    let mut to = at + 4;
+    out.put_head(2 * named(edges), kind);
     for e in edges {
-        to = put_edge(out, to, *e);
+        put_edge(out, *e);
     }
-    to
 }

@@ -1,7 +1,8 @@
 -- From the jobs on the file that is written to the calls on the two texts.
 use Rattle.std.specs.Prelude.{ℕ, ◌≡◌, List, [], length, take}
+use Rattle.std.specs.Borrow.{Bor, MutBor}
 use Rattle.std.proofs.Common.{sym, ◌∙◌, length-take-le}
-use Rattle.std.proofs.Math.Path.{ap}
+use Rattle.std.proofs.Math.Path.{ap, ap₂}
 use Rattle.meaning.specs.Meaning.{Problem}
 use Rattle.meaning.specs.File.{Reading}
 use Rattle.meaning.specs.Calls
@@ -15,6 +16,17 @@ use Rattle.circuits.specs.declared.refusal.Refusal.{Refusal}
 use Rattle.circuits.specs.Refused.{number_of, place_of}
 use Rattle.circuits.specs.Reading.{Refuses, WrittenAs}
 
+-- a job on an accepted problem
+abbrev pub Job : Type 0
+Job = Problem → List ℕ → Outcome
+
+-- what a call on the problem's file, and on what is lent, comes to: what the job does
+abbrev pub Does : List ℕ → List ℕ → List ℕ → Job → (Bor (List ℕ) → MutBor (List ℕ) → Report → MutBor (List ℕ) → Type 0) → Type 0
+Does text lemmas lent job Gives =
+    (out : List ℕ) (len : ℕ) → WrittenAs text lemmas out len
+    → (file : Bor (List ℕ)) (before : MutBor (List ℕ)) (r : Report) (after : MutBor (List ℕ)) → file.now ≡ take len out → before.now ≡ lent
+    → Gives file before r after → outcome_of r after.now ≡ on_reading (read_circuit text lemmas) job lent
+
 -- a refusal, whatever the job
 module _ (text lemmas : List ℕ) (why : Refusal) (refuses : Refuses text lemmas why) (r : Report)
     (told : report_of r ≡ (refusal (number_of why) (place_of why) 0 0 []).report) where
@@ -23,10 +35,6 @@ module _ (text lemmas : List ℕ) (why : Refusal) (refuses : Refuses text lemmas
   refused_call job lent =
       ap (λ (x : Calls.Report). record { report = x; lent = lent }) told
       ∙ ap (λ (x : Reading). on_reading x job lent) (sym refuses)
-
-  pub refused_check : report_of r ≡ (circuit_check_call text lemmas 0 []).report
-  unfolding circuit_check_call
-  refused_check = ap (λ (o : Outcome). o.report) (refused_call checked [])
 
 module _ (text lemmas out : List ℕ) (len : ℕ) (written : WrittenAs text lemmas out len) where
   pub written_long : len ≡ length (take len out)
@@ -40,6 +48,16 @@ module _ (text lemmas out : List ℕ) (len : ℕ) (written : WrittenAs text lemm
   check_asked r told =
       told ∙ ap (λ (file : List ℕ). (check_call file 0 []).report) written.bytes
       ∙ ap (λ (o : Outcome). o.report) (sym (circuit_check_is text lemmas p 0 [] written.is))
+
+  -- and what was lent to it stays
+  pub check_does : (r : Report) (after lent : List ℕ) → report_of r ≡ (check_call (take len out) 0 []).report → after ≡ lent
+      → outcome_of r after ≡ on_reading (read_circuit text lemmas) checked lent
+  unfolding circuit_check_call on_reading checked
+  check_does r after lent told stays =
+      let is : report_of r ≡ (checked p lent).report =
+      check_asked r told ∙ ap (λ (x : Reading). (on_reading x checked []).report) written.is in
+      ap₂ (λ (x : Calls.Report) (l : List ℕ). record { report = x; lent = l }) is stays
+      ∙ ap (λ (x : Reading). on_reading x checked lent) (sym written.is)
 
   pub largest_asked : (o : Outcome) (budget : ℕ) (lent : List ℕ) → o ≡ largest_call (take len out) budget lent
       → o ≡ circuit_largest_call text lemmas budget lent

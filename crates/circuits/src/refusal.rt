@@ -1,9 +1,12 @@
 // Why two texts have no answer.
-ghost use Rattle.std.specs.Prelude.{◌≡◌};
+ghost use Rattle.std.specs.Prelude.{◌≡◌, []};
+ghost use Rattle.meaning.specs.Calls.{refusal};
+ghost use Rattle.problem.specs.Answers.{report_of};
 ghost use Rattle.circuits.specs.declared.refusal.Refusal.TheVariants.{Line};
 ghost use Rattle.circuits.specs.Refused.{number_of, place_of};
 
 use lines::fault::Fault;
+use problem::Report;
 
 // A line at fault, of the circuit or of the lemmas; more than the limits; a justice property or a fairness constraint; or a problem file that
 // does not fit the bytes that are lent.
@@ -44,5 +47,13 @@ impl From<Fault> for Refusal {
 
     fn from(fault: Fault) -> Refusal {
         Refusal::Line(fault)
+    }
+}
+
+impl From<Refusal> for Report {
+    ghost from_gives = { λ r report. report_of report ≡ (refusal (number_of r) (place_of r) 0 0 []).report };
+
+    fn from(r: Refusal) -> Report {
+        Report::refused(r.number(), r.place(), 0, 0)
     }
 }

@@ -1,6 +1,6 @@
 -- The literals of a line, as they are written word by word.
 use Rattle.std.specs.Prelude.{ℕ, ◌+◌, ◌≤◌, ◌<◌, ◌≡◌, refl, ◌⊎◌, true, false, List, [], ◌++◌, length, get_or, ltb, leb, eqb}
-use Rattle.std.proofs.Common.{arith, subst, ◌∙◌, inl, inr, length-append}
+use Rattle.std.proofs.Common.{arith, ◌∙◌, inl, inr}
 use Rattle.std.proofs.Math.Path.{sym, ap, ap₂}
 use borrow.Author.Tests.{ltb-true, ltb-false, leb-true, eqb-true, eqb-false}
 use Rattle.meaning.specs.Clauses.{Literal, pos, neg}
@@ -14,7 +14,8 @@ use Rattle.lines.specs.Digits.{huge}
 use Rattle.lines.specs.Numbers.{worth}
 use Rattle.lemma_text.specs.declared.line.Word.{Word}
 use Rattle.lines.specs.Literals.{value_below}
-use Rattle.records.specs.Put.{put, put_put, put_none, length_put}
+use Rattle.records.specs.declared.Records.{Records}
+use Rattle.records.specs.Puts.{HasRoom}
 use Rattle.lemma_text.specs.Words.{WordAt, minus_at, with_sign, latch_literal_is, sign_before, plain_span}
 use Rattle.lemma_text.specs.Line.{good_line, lemma_at, bad_cut, bad_other, bad_empty, bad_latch, last_none, lemma_first, good_space}
 
@@ -104,56 +105,12 @@ module _ (text : List ℕ) (at : ℕ) (x : Word) (w : WordAt text at x) (g : Wri
               ∙ ap (λ (l : Literal). literal_bytes l ++ clause_bytes (lemma_at text ((x.start + length x.number.digits.now) + 1))) literal_is;
         }
 
--- ---- what is left to write
+-- ---- room for a literal
 
 literal_length : (l : Literal) → length (literal_bytes l) ≡ 2
 unfolding literal_bytes two
 literal_length (pos v) = refl
 literal_length (neg v) = refl
 
--- So many bytes are written as the whole takes, and what is left, put behind them, makes the whole.
-pub record Left (whole : List ℕ) (at : ℕ) (out₀ : List ℕ) (rest : List ℕ) (to : ℕ) (out : List ℕ) : Type 0 where
-  pub kept : length out ≡ length out₀
-  pub far : to + length rest ≡ at + length whole
-  pub made : put to rest out ≡ put at whole out₀
-
-pub left_all : (whole : List ℕ) (at : ℕ) (out : List ℕ) → Left whole at out whole at out
-left_all whole at out = record { kept = refl; far = refl; made = refl }
-
-module _ (whole : List ℕ) (at : ℕ) (out₀ : List ℕ) where
-  -- nothing is left
-  pub left_none : (rest : List ℕ) (to : ℕ) (out : List ℕ) → rest ≡ [] → Left whole at out₀ rest to out
-      → (to ≡ at + length whole) × (out ≡ put at whole out₀)
-  left_none rest to out none l = (
-    omega (arith, ap length none, l.far),
-    sym (put_none to out) ∙ ap (λ (b : List ℕ). put to b out) (sym none) ∙ l.made,
-  )
-
-  -- there is a part to write first
-  module _ (room : at + length whole ≤ length out₀) (part rest both : List ℕ) (is : both ≡ part ++ rest) (to : ℕ) (out : List ℕ)
-      (l : Left whole at out₀ both to out) where
-    long : length both ≡ length part + length rest
-    long = ap length is ∙ length-append part rest
-
-    pub left_room : to + length part ≤ length out
-    left_room = omega (arith, long, l.far, l.kept)
-
-    pub left_more : Left whole at out₀ rest (to + length part) (put to part out)
-    left_more =
-        let inside : to ≤ length out = omega (arith, left_room) in
-        record {
-          kept = length_put to part out left_room ∙ l.kept;
-          far = omega (arith, long, l.far);
-          made = put_put to part rest out inside ∙ ap (λ (b : List ℕ). put to b out) (sym is) ∙ l.made;
-        }
-
-  -- the part is a literal
-  module _ (room : at + length whole ≤ length out₀) (p : Literal) (rest both : List ℕ) (is : both ≡ literal_bytes p ++ rest) (to : ℕ)
-      (out : List ℕ) (l : Left whole at out₀ both to out) where
-    pub literal_room : to + 2 ≤ length out
-    literal_room = omega (arith, left_room room (literal_bytes p) rest both is to out l, literal_length p)
-
-    pub literal_more : Left whole at out₀ rest (to + 2) (put to (literal_bytes p) out)
-    literal_more =
-        subst (λ (k : ℕ). Left whole at out₀ rest (to + k) (put to (literal_bytes p) out)) (literal_length p)
-        (left_more room (literal_bytes p) rest both is to out l)
+pub literal_room : (l : Literal) {out : Records} → HasRoom (literal_bytes l) out → out.end + 2 ≤ length out.bytes.now
+literal_room l room = omega (arith, room.fits, literal_length l)

@@ -48,6 +48,7 @@ pub fn line_at(text: &[u8], at: usize, latches: usize) -> Option<Line>
 {
     let mut p = at;
     let mut count: usize = 0;
+    // A walk by a place that jumps, from word to word; the literals counted are the answer, and no index.
     loop {
         let x = word_at(text, p);
         let end = x.start + x.number.digits.len();

@@ -4,9 +4,9 @@ use Rattle.std.specs.Prelude.{map, drop}
 use Rattle.meaning.specs.Filed.{record_bytes}
 use Rattle.built.specs.Edges.{edge_of}
 use Rattle.built.specs.Clause.{edges_bytes}
-use Rattle.built.specs.Wrote.{Writing}
+use Rattle.records.specs.Puts.{Left}
 use Rattle.built.proofs.clause.put_clause.Given as goal
 
 abbrev pub invariant-loop-e : goal.invariant-loop-e
 invariant-loop-e l =
-    Writing (record_bytes l.kind (edges_bytes (map edge_of l.edges))) l.at l.fn.out (edges_bytes (map edge_of (drop l.e-index l.edges))) l.to l.out
+    Left (record_bytes l.kind (edges_bytes (map edge_of l.edges))) l.fn.out (edges_bytes (map edge_of (drop l.e-index l.edges))) l.out

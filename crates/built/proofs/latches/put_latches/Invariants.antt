@@ -6,4 +6,4 @@ use Rattle.sections.specs.Whole.{circuit_at}
 use Rattle.built.proofs.latches.put_latches.Given as goal
 
 abbrev pub invariant-loop-i : goal.invariant-loop-i
-invariant-loop-i l = Cursor l.text 2 l.initial.line l.i-end l.line l.i × Turn (line_part 3 (latch_line (circuit_at l.text l.c)) l.text l.initial.line) l.i-end l.at l.initial.out l.i l.to l.out
+invariant-loop-i l = Cursor l.text 2 l.initial.line l.i-end l.line l.i × Turn (line_part 3 (latch_line (circuit_at l.text l.c)) l.text l.initial.line) l.i-end l.initial.out l.i l.out

@@ -5,4 +5,4 @@ use Rattle.clause_count.specs.Rows.{Cursor}
 use Rattle.built.proofs.latches.put_starts.Given as goal
 
 abbrev pub invariant-loop-i : goal.invariant-loop-i
-invariant-loop-i l = Cursor l.text 2 l.initial.line l.i-end l.line l.i × Turn (line_part 2 start_line l.text l.initial.line) l.i-end l.at l.initial.out l.i l.to l.out
+invariant-loop-i l = Cursor l.text 2 l.initial.line l.i-end l.line l.i × Turn (line_part 2 start_line l.text l.initial.line) l.i-end l.initial.out l.i l.out

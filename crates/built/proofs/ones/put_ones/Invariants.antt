@@ -6,4 +6,4 @@ use Rattle.sections.specs.Whole.{circuit_at}
 use Rattle.built.proofs.ones.put_ones.Given as goal
 
 abbrev pub invariant-loop : goal.invariant-loop
-invariant-loop l = Cursor l.text 1 l.initial.line l.end l.line l.counter × Turn (line_part l.kind (one_line (circuit_at l.text l.c)) l.text l.initial.line) l.end l.at l.initial.out l.counter l.to l.out
+invariant-loop l = Cursor l.text 1 l.initial.line l.end l.line l.counter × Turn (line_part l.kind (one_line (circuit_at l.text l.c)) l.text l.initial.line) l.end l.initial.out l.counter l.out

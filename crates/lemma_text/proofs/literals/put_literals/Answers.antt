@@ -1,8 +1,11 @@
-use mathlib.Core.Path.{subst⁻¹}
 use native.Mathlib.Omega.{arith}
+use Rattle.records.specs.Puts.{left_all, left_is, left_none, left_room, left_more}
 use Rattle.lemma_text.specs.Words.{word_rises}
-use Rattle.lemma_text.specs.Written.{byte_after, bytes_last, literal_at, Left, left_none, literal_room, literal_more}
+use Rattle.lemma_text.specs.Written.{byte_after, bytes_last, literal_at, literal_room}
 use Rattle.lemma_text.proofs.literals.put_literals.Goals as goal
+
+pub loop-x-init : goal.loop-x-init
+loop-x-init c = (c.requires.writable, c.requires.from_in_bounds, left_all c.requires.from_in_bounds_2)
 
 pub bounds-text-end : goal.bounds-text-end
 bounds-text-end c = byte_after _ _ _ c.word_at-x.ensures c.loop-x.invariant.0
@@ -10,13 +13,13 @@ bounds-text-end c = byte_after _ _ _ c.word_at-x.ensures c.loop-x.invariant.0
 pub returns-then-text-end-eq10 : goal.returns-then-text-end-eq10
 returns-then-text-end-eq10 c =
     let turn = c.loop-x.invariant in
-    left_none _ _ _ _ _ _ (bytes_last _ _ _ c.word_at-x.ensures turn.0 c.if-text-end-eq10.true) turn.2
+    left_none turn.2 (bytes_last _ _ _ c.word_at-x.ensures turn.0 c.if-text-end-eq10.true)
 
 pub put_literal-requires-clause-at_in_bounds : goal.put_literal-requires-clause-at_in_bounds
 put_literal-requires-clause-at_in_bounds c =
     let turn = c.loop-x.invariant in
     let here = literal_at _ _ _ c.word_at-x.ensures turn.0 c.if-text-end-eq10.false in
-    literal_room _ _ _ c.requires.from_in_bounds_2 _ _ _ here.bytes _ _ turn.2
+    literal_room _ (left_room _ _ (left_is turn.2 here.bytes))
 
 pub put_literal-requires-clause-le_variable : goal.put_literal-requires-clause-le_variable
 put_literal-requires-clause-le_variable c = (literal_at _ _ _ c.word_at-x.ensures c.loop-x.invariant.0 c.if-text-end-eq10.false).low
@@ -34,5 +37,4 @@ loop-x-preserved c =
     let turn = c.loop-x.invariant in
     let here = literal_at _ _ _ c.word_at-x.ensures turn.0 c.if-text-end-eq10.false in
     let inside = byte_after _ _ _ c.word_at-x.ensures turn.0 in
-    let more = literal_more _ _ _ c.requires.from_in_bounds_2 _ _ _ here.bytes _ _ turn.2 in
-    (here.next, omega (arith, inside), subst⁻¹ (Left _ _ _ _ _) c.put_literal.ensures more)
+    (here.next, omega (arith, inside), left_more _ _ (left_is turn.2 here.bytes) c.put_literal.ensures)
