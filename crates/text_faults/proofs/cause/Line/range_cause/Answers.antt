@@ -1,7 +1,7 @@
--- `text_faults::cause::range_cause` makes the definition's tests. Assumes nothing.
+-- `text_faults::cause::Line::range_cause` makes the definition's tests. Assumes nothing.
 use mathlib.Core.Path.{sym, ◌∙◌}
 use Rattle.text_faults.specs.Causes.{range_cause}
-use Rattle.text_faults.proofs.cause.range_cause.Goals as goal
+use Rattle.text_faults.proofs.cause.Line.range_cause.Goals as goal
 
 pub returns-then-out : goal.returns-then-out
 unfolding range_cause

@@ -1,7 +1,7 @@
--- `text_faults::cause::later_cause` makes the definition's tests. Assumes nothing.
+-- `text_faults::cause::Line::later_cause` makes the definition's tests. Assumes nothing.
 use mathlib.Core.Path.{sym, ◌∙◌}
 use Rattle.text_faults.specs.Causes.{later_cause}
-use Rattle.text_faults.proofs.cause.later_cause.Goals as goal
+use Rattle.text_faults.proofs.cause.Line.later_cause.Goals as goal
 
 pub returns-then-unknown_at : goal.returns-then-unknown_at
 unfolding later_cause
