@@ -47,6 +47,7 @@ pub fn numbered(text: &[u8], at: usize, width: usize) -> bool
 }
 
 // A header that is not right: another text altogether, not ended, or not as it should be.
+#[tactic(auto, unfolding(crate::specs::Causes::header_cause))]
 pub fn header_cause(text: &[u8]) -> Cause
     ensures { result ≡ header_cause text.now }
 {
@@ -79,6 +80,7 @@ struct Line<'a> {
 
 impl Line<'_> {
     // Whether number j, counted from 0, is over 2M+1.
+    #[tactic(auto, unfolding(crate::specs::Causes::out))]
     fn out(&self, j: usize) -> bool
         ensures { result ≡ out self.now.text.now self.now.at self.now.width j (worth self.now.m.now) }
     {
@@ -86,6 +88,7 @@ impl Line<'_> {
     }
 
     // Whether no line defines the variable of number j: the same test as `out` but for the question, which as a closure would need a contract of its own.
+    #[tactic(auto, unfolding(crate::specs::Causes::unknown_at))]
     fn unknown_at(&self, j: usize) -> bool
         ensures { result ≡ unknown_at self.now.text.now self.now.at self.now.width j self.now.p }
     {
@@ -93,6 +96,7 @@ impl Line<'_> {
     }
 
     // The numbers after the first.
+    #[tactic(auto, unfolding(crate::specs::Causes::later_cause))]
     fn later_cause(&self) -> Cause
         ensures { result ≡ later_cause self.now.text.now self.now.at self.now.width self.now.p }
     {
@@ -106,6 +110,7 @@ impl Line<'_> {
     }
 
     // What a line uses: the first number too, where it defines nothing.
+    #[tactic(auto, unfolding(crate::specs::Causes::uses_cause))]
     fn uses_cause(&self) -> Cause
         ensures { result ≡ uses_cause self.now.text.now self.now.at self.now.width self.now.defines self.now.p }
     {
@@ -116,6 +121,7 @@ impl Line<'_> {
     }
 
     // A variable that an earlier line defines.
+    #[tactic(auto, unfolding(crate::specs::Causes::twice_cause))]
     fn twice_cause(&self) -> Cause
         ensures { result ≡ twice_cause self.now.text.now self.now.at self.now.width self.now.defines self.now.p }
     {
@@ -127,6 +133,7 @@ impl Line<'_> {
     }
 
     // A line whose numbers are in range.
+    #[tactic(auto, unfolding(crate::specs::Causes::after_ranges))]
     fn after_ranges(&self) -> Cause
         ensures { result ≡ after_ranges self.now.text.now self.now.at self.now.width self.now.defines self.now.p }
     {
@@ -137,6 +144,7 @@ impl Line<'_> {
     }
 
     // Its ranges.
+    #[tactic(auto, unfolding(crate::specs::Causes::range_cause))]
     fn range_cause(&self) -> Cause
         ensures { result ≡ range_cause self.now.text.now self.now.at self.now.width self.now.defines (worth self.now.m.now) self.now.p }
     {
@@ -153,6 +161,7 @@ impl Line<'_> {
     }
 
     // A line that defines a variable.
+    #[tactic(auto, unfolding(crate::specs::Causes::defined_cause))]
     fn defined_cause(&self) -> Cause
         ensures { result ≡ defined_cause self.now.text.now self.now.at self.now.width self.now.defines (worth self.now.m.now) self.now.p }
     {
@@ -168,6 +177,7 @@ impl Line<'_> {
 }
 
 // A line of so many numbers.
+#[tactic(auto, unfolding(crate::specs::Causes::literals_cause))]
 pub fn literals_cause(
     text: &[u8],
     at: usize,
@@ -196,6 +206,7 @@ pub fn literals_cause(
 }
 
 // A line of so many numbers, and no others.
+#[tactic(auto, unfolding(crate::specs::Causes::form_cause))]
 pub fn form_cause(
     text: &[u8],
     at: usize,
@@ -216,6 +227,7 @@ pub fn form_cause(
 }
 
 // A line with a count, which may be any number.
+#[tactic(auto, unfolding(crate::specs::Causes::count_cause))]
 pub fn count_cause(text: &[u8], at: usize) -> Cause
     requires { at ≤ length text.now }
     ensures { result ≡ count_cause text.now at }

@@ -24,6 +24,7 @@ pub struct Fault {
 }
 
 // A count that is below every value that is not told apart.
+#[tactic(auto, unfolding(crate::specs::Circuits::below_huge))]
 fn below_huge(n: usize) -> usize
     ensures { (result ≡ below_huge n) × (result < 18446744073709551610) }
 {
@@ -46,6 +47,7 @@ fn counts_of(s: Sizes) -> Counts
 }
 
 // A symbol line: its form, its position; else the position was named before.
+#[tactic(auto, unfolding(crate::specs::Circuits::symbol_cause))]
 fn symbol_cause(text: &[u8], at: usize, s: Sizes) -> Cause
     requires at_in_bounds { at < length text.now }
     requires at_value { ended text.now at ≡ true }
@@ -96,6 +98,7 @@ fn closed_cause(text: &[u8], at: usize, kind: Kind, h: &Header, s: Sizes) -> Cau
 }
 
 // A line under a header that is right.
+#[tactic(auto, unfolding(crate::specs::Circuits::line_cause))]
 fn line_cause(text: &[u8], at: usize, kind: Kind, h: &Header, s: Sizes) -> Cause
     requires { Parts text.now h.now }
     ensures { result ≡ line_cause text.now at kind (header_at h.now) s h.now.next }
@@ -110,6 +113,7 @@ fn line_cause(text: &[u8], at: usize, kind: Kind, h: &Header, s: Sizes) -> Cause
 }
 
 // A header that is not right, or missing.
+#[tactic(auto, unfolding(crate::specs::Circuits::header_fault))]
 fn header_fault(text: &[u8]) -> Fault
     ensures { result ≡ header_fault text.now }
 {
@@ -126,6 +130,7 @@ fn header_fault(text: &[u8]) -> Fault
 }
 
 // The line at a place.
+#[tactic(auto, unfolding(crate::specs::Circuits::circuit_fault))]
 pub fn circuit_fault(text: &[u8], at: usize) -> Fault
     ensures { result ≡ circuit_fault text.now at }
 {
@@ -141,6 +146,7 @@ pub fn circuit_fault(text: &[u8], at: usize) -> Fault
 }
 
 // How many latches a header has, as far as they are told apart; none, where it is not right.
+#[tactic(auto, unfolding(crate::specs::Circuits::latches_of))]
 pub fn latches_of(text: &[u8]) -> usize
     ensures { (result ≡ latches_of text.now) × (result < 18446744073709551610) }
 {

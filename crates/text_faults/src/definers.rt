@@ -68,6 +68,7 @@ pub fn definer(text: &[u8], x: &Number, from: usize, to: usize) -> usize
 }
 
 // Whether a literal is a constant, or an input, a latch or a gate has its variable.
+#[tactic(auto, unfolding(crate::specs::Definers::known_here))]
 pub fn known_here(text: &[u8], p: Places, x: &Number) -> bool
     requires { Inside text.now p }
     ensures { result ≡ known_here text.now p (worth x.now) }

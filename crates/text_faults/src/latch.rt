@@ -25,6 +25,7 @@ fn starts_right(text: &[u8], at: usize) -> bool
 }
 
 // By how many numbers it has.
+#[tactic(auto, unfolding(crate::specs::Latches::latch_cause, crate::specs::Latches::third_cause, crate::specs::Latches::start_cause, crate::specs::Latches::latch_numbers))]
 pub fn latch_cause(text: &[u8], at: usize, newer: bool, m: &Number, p: Places) -> Cause
     requires at_in_bounds { at < length text.now }
     requires inside { Inside text.now p }

@@ -63,6 +63,7 @@ fn words_cause(text: &[u8], at: usize, latches: usize) -> Option<Cause>
 }
 
 // What is wrong with the line at a place, over so many latches, if anything is.
+#[tactic(auto, unfolding(crate::specs::Lemmas::lemma_cause))]
 pub fn lemma_cause(text: &[u8], at: usize, latches: usize) -> Option<Cause>
     requires { latches < 18446744073709551610 }
     ensures { result ≡ lemma_cause latches text.now at }

@@ -51,6 +51,7 @@ fn long_lemma(text: &[u8]) -> Limit
 }
 
 // How many lemmas there are, and their lengths.
+#[tactic(auto, unfolding(crate::specs::Limits::lemmas_limit))]
 fn lemmas_limit(lemmas: &[u8]) -> Limit
     ensures { result ≡ lemmas_limit lemmas.now }
 {
@@ -62,6 +63,7 @@ fn lemmas_limit(lemmas: &[u8]) -> Limit
 }
 
 // No output, and so many bad literals; then the lemmas.
+#[tactic(auto, unfolding(crate::specs::Limits::bads_limit))]
 fn bads_limit(bads: usize, lemmas: &[u8]) -> Limit
     ensures { result ≡ bads_limit bads lemmas.now }
 {
@@ -73,6 +75,7 @@ fn bads_limit(bads: usize, lemmas: &[u8]) -> Limit
 }
 
 // Outputs and bad literals, then the lemmas.
+#[tactic(auto, unfolding(crate::specs::Limits::property_limit))]
 fn property_limit(outputs: usize, bads: usize, lemmas: &[u8]) -> Limit
     ensures { result ≡ property_limit outputs bads lemmas.now }
 {
@@ -113,6 +116,7 @@ fn header_limit(h: &Header, lemmas: &[u8]) -> Limit
 
 // The first limit that the texts are over, in the order of the list; the clauses, which are not counted here, where no other is; none, where
 // there is no header.
+#[tactic(auto, unfolding(crate::specs::Limits::limit_of))]
 pub fn limit_of(text: &[u8], lemmas: &[u8]) -> Option<Limit>
     ensures { result ≡ limit_of text.now lemmas.now }
 {

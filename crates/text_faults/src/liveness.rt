@@ -12,6 +12,7 @@ pub struct Liveness {
 }
 
 // None, where the header is not right.
+#[tactic(auto, unfolding(crate::specs::Liveness::liveness_of))]
 pub fn liveness_of(text: &[u8]) -> Liveness
     ensures { result ≡ liveness_of text.now }
 {

@@ -12,6 +12,7 @@ pub fn count_byte(bytes: &[u8], b: u8) -> usize
 }
 
 // The number of the line at a place, counted from 1.
+#[tactic(auto, unfolding(crate::specs::Places::line_number))]
 pub fn line_number(text: &[u8], at: usize) -> usize
     ensures { result ≡ line_number text.now at }
 {

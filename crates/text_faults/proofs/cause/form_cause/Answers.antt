@@ -4,18 +4,9 @@ use Rattle.text_faults.specs.Causes.{form_cause}
 use Rattle.text_faults.specs.CauseLaws.{row_of}
 use Rattle.text_faults.proofs.cause.form_cause.Goals as goal
 
-pub returns-then-not-numbered : goal.returns-then-not-numbered
-unfolding form_cause
-returns-then-not-numbered c =
-    rw (sym c.numbered.ensures ∙ c.if-not-numbered.true)
-
 pub literals_cause-requires-clause-row : goal.literals_cause-requires-clause-row
 literals_cause-requires-clause-row c =
     let a = c.args in
     let h = c.requires in
     row_of a.text.now a.at a.width h.at_in_bounds (sym c.numbered.ensures ∙ c.if-not-numbered.false)
 
-pub returns : goal.returns
-unfolding form_cause
-returns c =
-    rw (sym c.numbered.ensures ∙ c.if-not-numbered.false) c.literals_cause.ensures

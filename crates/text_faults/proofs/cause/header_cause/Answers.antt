@@ -7,11 +7,6 @@ use Rattle.text_faults.specs.Causes.{header_cause}
 use Rattle.text_faults.specs.CauseLaws.{some_numbers, no_numbers}
 use Rattle.text_faults.proofs.cause.header_cause.Goals as goal
 
-pub returns-then-not-starts : goal.returns-then-not-starts
-unfolding header_cause
-returns-then-not-starts c =
-    rw (sym c.starts.ensures ∙ c.if-not-starts.true)
-
 pub returns-then-text-line_end : goal.returns-then-text-line_end
 unfolding header_cause
 returns-then-text-line_end c =

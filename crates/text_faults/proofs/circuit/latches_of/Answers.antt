@@ -7,11 +7,6 @@ use Rattle.lines.specs.Numbers.{capped, value_is}
 use Rattle.text_faults.specs.Circuits.{below_huge, latches_of}
 use Rattle.text_faults.proofs.circuit.latches_of.Goals as goal
 
-pub returns-in_default : goal.returns-in_default
-unfolding latches_of
-returns-in_default c =
-    (rw (c.in_default.ensures), omega arith)
-
 pub returns : goal.returns
 unfolding latches_of header_at
 returns c =

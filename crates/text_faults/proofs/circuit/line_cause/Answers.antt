@@ -6,11 +6,6 @@ use Rattle.symbols.specs.Walk.{is_closed, is_open}
 use Rattle.text_faults.specs.Circuits.{line_cause}
 use Rattle.text_faults.proofs.circuit.line_cause.Goals as goal
 
-pub returns-then-text-at : goal.returns-then-text-at
-unfolding line_cause
-returns-then-text-at c =
-    rw (le-leb (length c.args.text.now) c.args.at c.if-text-at.true)
-
 pub returns-then-text-line_end : goal.returns-then-text-line_end
 unfolding line_cause
 returns-then-text-line_end c =

@@ -11,15 +11,6 @@ unfolding known_here
 returns-then-x-lt2 c =
     rw (lt-ltb (worth c.args.x.now) 2 (value_small c.args.x.now c.if-x-lt2.true))
 
-pub returns-then-definer-p : goal.returns-then-definer-p
-unfolding known_here
-returns-then-definer-p c =
-    rw (
-      le-ltb (worth c.args.x.now) 2 (value_least c.args.x.now c.if-x-lt2.false),
-      sym c.definer.ensures,
-      lt-ltb c.definer.result c.args.p.outputs c.if-definer-p.true,
-    )
-
 pub returns : goal.returns
 unfolding known_here
 returns c =

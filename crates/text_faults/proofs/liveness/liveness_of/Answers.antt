@@ -4,11 +4,6 @@ use Rattle.lines.specs.Numbers.{value_is}
 use Rattle.text_faults.specs.Liveness.{liveness_of, live_is}
 use Rattle.text_faults.proofs.liveness.liveness_of.Goals as goal
 
-pub returns-in_default : goal.returns-in_default
-unfolding liveness_of
-returns-in_default c =
-    rw (c.in_default.ensures)
-
 pub returns : goal.returns
 unfolding liveness_of header_at
 returns c =

@@ -4,11 +4,6 @@ use native.Mathlib.Omega.{arith}
 use Rattle.text_faults.specs.Places.{skip, skip_end}
 use Rattle.text_faults.proofs.places.skip.Goals as goal
 
-pub loop-done-init : goal.loop-done-init
-loop-done-init c =
-    let all : c.args.count ≡ c.args.count - 0 = omega arith in
-    (ap (λ (n : ℕ). skip n c.args.text.now c.args.at) all, c.requires)
-
 pub returns-then-text-p : goal.returns-then-text-p
 returns-then-text-p c =
     let l = c.loop-done in

@@ -10,12 +10,6 @@ use Rattle.sections.specs.Rows.{value_small, value_least}
 use Rattle.text_faults.specs.Causes.{defined_cause}
 use Rattle.text_faults.proofs.cause.Line.defined_cause.Goals as goal
 
-pub returns-then-not-is_even : goal.returns-then-not-is_even
-unfolding defined_cause
-returns-then-not-is_even c =
-    let e = sym (c.is_even.ensures ∙ ap (λ (l : ℕ). eqb (l % 2) 0) c.nth-l.ensures.0) in
-    rw (e ∙ c.if-not-is_even.true)
-
 pub returns-then-l-lt2 : goal.returns-then-l-lt2
 unfolding defined_cause
 returns-then-l-lt2 c =
