@@ -38,6 +38,7 @@ pub enum Cause {
 }
 
 // Whether a line is of so many numbers, and ended.
+#[tactic(auto, using(crate::specs::CauseLaws::numbered_is))]
 pub fn numbered(text: &[u8], at: usize, width: usize) -> bool
     requires at_in_bounds { at ≤ length text.now }
     requires le_width { 1 ≤ width }
@@ -47,7 +48,7 @@ pub fn numbered(text: &[u8], at: usize, width: usize) -> bool
 }
 
 // A header that is not right: another text altogether, not ended, or not as it should be.
-#[tactic(auto, unfolding(crate::specs::Causes::header_cause))]
+#[tactic(auto, using(symbols::specs::Walk::is_closed, symbols::specs::Walk::is_open, circuit_text::specs::Header::four_in, crate::specs::CauseLaws::some_numbers, crate::specs::CauseLaws::no_numbers), unfolding(crate::specs::Causes::header_cause))]
 pub fn header_cause(text: &[u8]) -> Cause
     ensures { result ≡ header_cause text.now }
 {
@@ -161,7 +162,7 @@ impl Line<'_> {
     }
 
     // A line that defines a variable.
-    #[tactic(auto, unfolding(crate::specs::Causes::defined_cause))]
+    #[tactic(auto, using(sections::specs::Rows::value_small, sections::specs::Rows::value_least), unfolding(crate::specs::Causes::defined_cause))]
     fn defined_cause(&self) -> Cause
         ensures { result ≡ defined_cause self.now.text.now self.now.at self.now.width self.now.defines (worth self.now.m.now) self.now.p }
     {
@@ -206,7 +207,7 @@ pub fn literals_cause(
 }
 
 // A line of so many numbers, and no others.
-#[tactic(auto, unfolding(crate::specs::Causes::form_cause))]
+#[tactic(auto, using(crate::specs::CauseLaws::row_of), unfolding(crate::specs::Causes::form_cause))]
 pub fn form_cause(
     text: &[u8],
     at: usize,

@@ -13,6 +13,7 @@ use lines::number::Number;
 use sections::nth::nth;
 
 // Whether the third number of a line is 0, 1 or its first.
+#[tactic(auto, using(crate::specs::Latches::starts_constant, crate::specs::Latches::starts_own))]
 fn starts_right(text: &[u8], at: usize) -> bool
     requires { Row text.now at 3 }
     ensures { result ≡ start_right (latch_form true) (numbers_at text.now at) }
@@ -25,7 +26,7 @@ fn starts_right(text: &[u8], at: usize) -> bool
 }
 
 // By how many numbers it has.
-#[tactic(auto, unfolding(crate::specs::Latches::latch_cause, crate::specs::Latches::third_cause, crate::specs::Latches::start_cause, crate::specs::Latches::latch_numbers))]
+#[tactic(auto, using(crate::specs::CauseLaws::row_of, crate::specs::CauseLaws::row_part), unfolding(crate::specs::Latches::latch_cause, crate::specs::Latches::third_cause, crate::specs::Latches::start_cause, crate::specs::Latches::latch_numbers))]
 pub fn latch_cause(text: &[u8], at: usize, newer: bool, m: &Number, p: Places) -> Cause
     requires at_in_bounds { at < length text.now }
     requires inside { Inside text.now p }

@@ -27,6 +27,7 @@ pub enum Limit {
 }
 
 // How many spaces a line has: as many as literals, where it is a lemma.
+#[tactic(auto, using(crate::specs::LimitLaws::line_part))]
 fn spaces(text: &[u8], at: usize) -> usize
     requires { at ≤ length text.now }
     ensures { result ≡ count_of 32 (line_at text.now at) }
@@ -92,6 +93,7 @@ fn property_limit(outputs: usize, bads: usize, lemmas: &[u8]) -> Limit
 }
 
 // Inputs and gates, then outputs and bad literals, then the lemmas.
+#[tactic(auto, using(crate::specs::LimitLaws::is_wide, crate::specs::LimitLaws::is_narrow, lines::specs::Numbers::value_is), unfolding(circuit_text::specs::Header::header_at))]
 fn width_limit(h: &Header, lemmas: &[u8]) -> Limit
     ensures { result ≡ width_limit (header_at h.now) lemmas.now }
 {
@@ -102,6 +104,7 @@ fn width_limit(h: &Header, lemmas: &[u8]) -> Limit
 }
 
 // The latches, then the rest.
+#[tactic(auto, using(crate::specs::LimitLaws::no_latch, crate::specs::LimitLaws::many_latches, crate::specs::LimitLaws::few_latches, lines::specs::Numbers::value_is), unfolding(circuit_text::specs::Header::header_at))]
 fn header_limit(h: &Header, lemmas: &[u8]) -> Limit
     ensures { result ≡ header_limit (header_at h.now) lemmas.now }
 {
