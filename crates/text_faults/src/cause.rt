@@ -38,6 +38,7 @@ pub enum Cause {
 }
 
 // Whether a line is of so many numbers, and ended.
+#[tactic(auto, using(crate::specs::CauseLaws::numbered_is))]
 pub fn numbered(text: &[u8], at: usize, width: usize) -> bool
     requires at_in_bounds { at ≤ length text.now }
     requires le_width { 1 ≤ width }
@@ -47,6 +48,7 @@ pub fn numbered(text: &[u8], at: usize, width: usize) -> bool
 }
 
 // A header that is not right: another text altogether, not ended, or not as it should be.
+#[tactic(auto, using(symbols::specs::Walk::is_closed, symbols::specs::Walk::is_open, circuit_text::specs::Header::four_in, crate::specs::CauseLaws::some_numbers, crate::specs::CauseLaws::no_numbers), unfolding(crate::specs::Causes::header_cause))]
 pub fn header_cause(text: &[u8]) -> Cause
     ensures { result ≡ header_cause text.now }
 {
@@ -62,124 +64,121 @@ pub fn header_cause(text: &[u8]) -> Cause
     Cause::HeaderSum
 }
 
-// Whether number j of a line, counted from 0, is over 2M+1.
-fn out(text: &[u8], at: usize, width: usize, j: usize, m: &Number) -> bool
-    requires { Row text.now at width }
-    ensures { result ≡ out text.now at width j (worth m.now) }
-{
-    j < width && !used_right(m, &nth(text, at, j))
-}
-
-// Whether no line defines the variable of number j.
-fn unknown_at(text: &[u8], at: usize, width: usize, j: usize, p: Places) -> bool
-    requires row { Row text.now at width }
-    requires inside { Inside text.now p }
-    ensures { result ≡ unknown_at text.now at width j p }
-{
-    j < width && !known_here(text, p, &nth(text, at, j))
-}
-
-// The numbers after the first.
-fn later_cause(text: &[u8], at: usize, width: usize, p: Places) -> Cause
-    requires row { Row text.now at width }
-    requires inside { Inside text.now p }
-    ensures { result ≡ later_cause text.now at width p }
-{
-    if unknown_at(text, at, width, 1, p) {
-        return Cause::Undefined(2);
-    }
-    if unknown_at(text, at, width, 2, p) {
-        return Cause::Undefined(3);
-    }
-    Cause::Stuck
-}
-
-// What a line uses: the first number too, where it defines nothing.
-fn uses_cause(text: &[u8], at: usize, width: usize, defines: bool, p: Places) -> Cause
-    requires row { Row text.now at width }
-    requires inside { Inside text.now p }
-    ensures { result ≡ uses_cause text.now at width defines p }
-{
-    if defines {
-        return later_cause(text, at, width, p);
-    }
-    if unknown_at(text, at, width, 0, p) {
-        return Cause::Undefined(1);
-    }
-    later_cause(text, at, width, p)
-}
-
-// A variable that an earlier line defines.
-fn twice_cause(text: &[u8], at: usize, width: usize, defines: bool, p: Places) -> Cause
-    requires row { Row text.now at width }
-    requires inside { Inside text.now p }
-    requires width_nonzero { 0 < width }
-    ensures { result ≡ twice_cause text.now at width defines p }
-{
-    let found = earlier(text, p, &nth(text, at, 0), at);
-    if found < at {
-        return Cause::Twice(found);
-    }
-    uses_cause(text, at, width, defines, p)
-}
-
-// A line whose numbers are in range.
-fn after_ranges(text: &[u8], at: usize, width: usize, defines: bool, p: Places) -> Cause
-    requires row { Row text.now at width }
-    requires inside { Inside text.now p }
-    requires width_nonzero { 0 < width }
-    ensures { result ≡ after_ranges text.now at width defines p }
-{
-    if defines {
-        return twice_cause(text, at, width, defines, p);
-    }
-    uses_cause(text, at, width, defines, p)
-}
-
-// Its ranges.
-fn range_cause(text: &[u8], at: usize, width: usize, defines: bool, m: &Number, p: Places) -> Cause
-    requires row { Row text.now at width }
-    requires inside { Inside text.now p }
-    requires width_nonzero { 0 < width }
-    ensures { result ≡ range_cause text.now at width defines (worth m.now) p }
-{
-    if out(text, at, width, 0, m) {
-        return Cause::Range(1);
-    }
-    if out(text, at, width, 1, m) {
-        return Cause::Range(2);
-    }
-    if out(text, at, width, 2, m) {
-        return Cause::Range(3);
-    }
-    after_ranges(text, at, width, defines, p)
-}
-
-// A line that defines a variable.
-fn defined_cause(
-    text: &[u8],
+// A line of so many numbers at least, whether its first defines a variable, and what it is judged by: the header's M, and where the lines that
+// define variables are.
+#[derive(Clone, Copy)]
+struct Line<'a> {
+    text: &'a [u8],
     at: usize,
     width: usize,
     defines: bool,
-    m: &Number,
+    m: &'a Number<'a>,
     p: Places,
-) -> Cause
-    requires row { Row text.now at width }
-    requires inside { Inside text.now p }
-    requires width_nonzero { 0 < width }
-    ensures { result ≡ defined_cause text.now at width defines (worth m.now) p }
-{
-    let l = nth(text, at, 0);
-    if !is_even(&l) {
-        return Cause::Odd;
+    ghost row: { Row text.now at width },
+    ghost inside: { Inside text.now p },
+    ghost width_nonzero: { 0 < width },
+}
+
+impl Line<'_> {
+    // Whether number j, counted from 0, is over 2M+1.
+    #[tactic(auto, unfolding(crate::specs::Causes::out))]
+    fn out(&self, j: usize) -> bool
+        ensures { result ≡ out self.now.text.now self.now.at self.now.width j (worth self.now.m.now) }
+    {
+        j < self.width && !used_right(self.m, &nth(self.text, self.at, j))
     }
-    if l.value < 2 {
-        return Cause::Small;
+
+    // Whether no line defines the variable of number j: the same test as `out` but for the question, which as a closure would need a contract of its own.
+    #[tactic(auto, unfolding(crate::specs::Causes::unknown_at))]
+    fn unknown_at(&self, j: usize) -> bool
+        ensures { result ≡ unknown_at self.now.text.now self.now.at self.now.width j self.now.p }
+    {
+        j < self.width && !known_here(self.text, self.p, &nth(self.text, self.at, j))
     }
-    range_cause(text, at, width, defines, m, p)
+
+    // The numbers after the first.
+    #[tactic(auto, unfolding(crate::specs::Causes::later_cause))]
+    fn later_cause(&self) -> Cause
+        ensures { result ≡ later_cause self.now.text.now self.now.at self.now.width self.now.p }
+    {
+        if self.unknown_at(1) {
+            return Cause::Undefined(2);
+        }
+        if self.unknown_at(2) {
+            return Cause::Undefined(3);
+        }
+        Cause::Stuck
+    }
+
+    // What a line uses: the first number too, where it defines nothing.
+    #[tactic(auto, unfolding(crate::specs::Causes::uses_cause))]
+    fn uses_cause(&self) -> Cause
+        ensures { result ≡ uses_cause self.now.text.now self.now.at self.now.width self.now.defines self.now.p }
+    {
+        if !self.defines && self.unknown_at(0) {
+            return Cause::Undefined(1);
+        }
+        self.later_cause()
+    }
+
+    // A variable that an earlier line defines.
+    #[tactic(auto, unfolding(crate::specs::Causes::twice_cause))]
+    fn twice_cause(&self) -> Cause
+        ensures { result ≡ twice_cause self.now.text.now self.now.at self.now.width self.now.defines self.now.p }
+    {
+        let found = earlier(self.text, self.p, &nth(self.text, self.at, 0), self.at);
+        if found < self.at {
+            return Cause::Twice(found);
+        }
+        self.uses_cause()
+    }
+
+    // A line whose numbers are in range.
+    #[tactic(auto, unfolding(crate::specs::Causes::after_ranges))]
+    fn after_ranges(&self) -> Cause
+        ensures { result ≡ after_ranges self.now.text.now self.now.at self.now.width self.now.defines self.now.p }
+    {
+        if self.defines {
+            return self.twice_cause();
+        }
+        self.uses_cause()
+    }
+
+    // Its ranges.
+    #[tactic(auto, unfolding(crate::specs::Causes::range_cause))]
+    fn range_cause(&self) -> Cause
+        ensures { result ≡ range_cause self.now.text.now self.now.at self.now.width self.now.defines (worth self.now.m.now) self.now.p }
+    {
+        if self.out(0) {
+            return Cause::Range(1);
+        }
+        if self.out(1) {
+            return Cause::Range(2);
+        }
+        if self.out(2) {
+            return Cause::Range(3);
+        }
+        self.after_ranges()
+    }
+
+    // A line that defines a variable.
+    #[tactic(auto, using(sections::specs::Rows::value_small, sections::specs::Rows::value_least), unfolding(crate::specs::Causes::defined_cause))]
+    fn defined_cause(&self) -> Cause
+        ensures { result ≡ defined_cause self.now.text.now self.now.at self.now.width self.now.defines (worth self.now.m.now) self.now.p }
+    {
+        let l = nth(self.text, self.at, 0);
+        if !is_even(&l) {
+            return Cause::Odd;
+        }
+        if l.value < 2 {
+            return Cause::Small;
+        }
+        self.range_cause()
+    }
 }
 
 // A line of so many numbers.
+#[tactic(auto, unfolding(crate::specs::Causes::literals_cause))]
 pub fn literals_cause(
     text: &[u8],
     at: usize,
@@ -193,13 +192,22 @@ pub fn literals_cause(
     requires width_nonzero { 0 < width }
     ensures { result ≡ literals_cause text.now at width defines (worth m.now) p }
 {
+    let line = Line {
+        text,
+        at,
+        width,
+        defines,
+        m,
+        p,
+    };
     if defines {
-        return defined_cause(text, at, width, defines, m, p);
+        return line.defined_cause();
     }
-    range_cause(text, at, width, defines, m, p)
+    line.range_cause()
 }
 
 // A line of so many numbers, and no others.
+#[tactic(auto, using(crate::specs::CauseLaws::row_of), unfolding(crate::specs::Causes::form_cause))]
 pub fn form_cause(
     text: &[u8],
     at: usize,
@@ -220,6 +228,7 @@ pub fn form_cause(
 }
 
 // A line with a count, which may be any number.
+#[tactic(auto, unfolding(crate::specs::Causes::count_cause))]
 pub fn count_cause(text: &[u8], at: usize) -> Cause
     requires { at ≤ length text.now }
     ensures { result ≡ count_cause text.now at }

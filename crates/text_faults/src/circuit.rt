@@ -24,6 +24,7 @@ pub struct Fault {
 }
 
 // A count that is below every value that is not told apart.
+#[tactic(auto, unfolding(crate::specs::Circuits::below_huge))]
 fn below_huge(n: usize) -> usize
     ensures { (result ≡ below_huge n) × (result < 18446744073709551610) }
 {
@@ -31,6 +32,7 @@ fn below_huge(n: usize) -> usize
 }
 
 // How many positions each letter has.
+#[tactic(auto, unfolding(crate::specs::Circuits::counts_of))]
 fn counts_of(s: Sizes) -> Counts
     ensures { (result ≡ counts_of s) × Small result }
 {
@@ -46,6 +48,7 @@ fn counts_of(s: Sizes) -> Counts
 }
 
 // A symbol line: its form, its position; else the position was named before.
+#[tactic(auto, using(crate::specs::CauseLaws::closed_end), unfolding(crate::specs::Circuits::symbol_cause))]
 fn symbol_cause(text: &[u8], at: usize, s: Sizes) -> Cause
     requires at_in_bounds { at < length text.now }
     requires at_value { ended text.now at ≡ true }
@@ -73,6 +76,7 @@ fn symbol_cause(text: &[u8], at: usize, s: Sizes) -> Cause
 }
 
 // A line that is ended.
+#[tactic(auto, unfolding(circuit_text::specs::Header::header_at))]
 fn closed_cause(text: &[u8], at: usize, kind: Kind, h: &Header, s: Sizes) -> Cause
     requires parts { Parts text.now h.now }
     requires at_in_bounds { at < length text.now }
@@ -84,18 +88,17 @@ fn closed_cause(text: &[u8], at: usize, kind: Kind, h: &Header, s: Sizes) -> Cau
         Kind::Header => Cause::Stuck,
         Kind::Input => form_cause(text, at, 1, true, &h.m, p),
         Kind::Latch => latch_cause(text, at, h.newer, &h.m, p),
-        Kind::Output => form_cause(text, at, 1, false, &h.m, p),
-        Kind::Bad => form_cause(text, at, 1, false, &h.m, p),
-        Kind::Constraint => form_cause(text, at, 1, false, &h.m, p),
+        Kind::Output | Kind::Bad | Kind::Constraint | Kind::Justice | Kind::Fairness => {
+            form_cause(text, at, 1, false, &h.m, p)
+        }
         Kind::Count => count_cause(text, at),
-        Kind::Justice => form_cause(text, at, 1, false, &h.m, p),
-        Kind::Fairness => form_cause(text, at, 1, false, &h.m, p),
         Kind::Gate => form_cause(text, at, 3, true, &h.m, p),
         Kind::Symbol => symbol_cause(text, at, s),
     }
 }
 
 // A line under a header that is right.
+#[tactic(auto, using(symbols::specs::Walk::is_closed, symbols::specs::Walk::is_open), unfolding(crate::specs::Circuits::line_cause))]
 fn line_cause(text: &[u8], at: usize, kind: Kind, h: &Header, s: Sizes) -> Cause
     requires { Parts text.now h.now }
     ensures { result ≡ line_cause text.now at kind (header_at h.now) s h.now.next }
@@ -110,6 +113,7 @@ fn line_cause(text: &[u8], at: usize, kind: Kind, h: &Header, s: Sizes) -> Cause
 }
 
 // A header that is not right, or missing.
+#[tactic(auto, unfolding(crate::specs::Circuits::header_fault))]
 fn header_fault(text: &[u8]) -> Fault
     ensures { result ≡ header_fault text.now }
 {
@@ -126,6 +130,7 @@ fn header_fault(text: &[u8]) -> Fault
 }
 
 // The line at a place.
+#[tactic(auto, unfolding(crate::specs::Circuits::circuit_fault))]
 pub fn circuit_fault(text: &[u8], at: usize) -> Fault
     ensures { result ≡ circuit_fault text.now at }
 {
@@ -141,6 +146,7 @@ pub fn circuit_fault(text: &[u8], at: usize) -> Fault
 }
 
 // How many latches a header has, as far as they are told apart; none, where it is not right.
+#[tactic(auto, using(lines::specs::Numbers::value_is), unfolding(crate::specs::Circuits::latches_of, circuit_text::specs::Header::header_at))]
 pub fn latches_of(text: &[u8]) -> usize
     ensures { (result ≡ latches_of text.now) × (result < 18446744073709551610) }
 {

@@ -19,6 +19,7 @@ pub struct Places {
 }
 
 // Past outputs, bad literals, constraints, counts, justice and fairness literals.
+#[tactic(auto, unfolding(crate::specs::Definers::past_properties))]
 fn past_properties(text: &[u8], s: Sizes, at: usize) -> usize
     requires { at ≤ length text.now }
     ensures { (result ≡ past_properties text.now s at) × (result ≤ length text.now) }
@@ -36,6 +37,7 @@ fn past_properties(text: &[u8], s: Sizes, at: usize) -> usize
 }
 
 // By how many there are of each kind, from the first input on.
+#[tactic(auto, unfolding(crate::specs::Definers::places_of, crate::specs::Definers::gates_at, crate::specs::Definers::outputs_at))]
 pub fn places_of(text: &[u8], s: Sizes, next: usize) -> Places
     requires { next ≤ length text.now }
     ensures { (result ≡ places_of text.now s next) × Inside text.now result }
@@ -68,6 +70,7 @@ pub fn definer(text: &[u8], x: &Number, from: usize, to: usize) -> usize
 }
 
 // Whether a literal is a constant, or an input, a latch or a gate has its variable.
+#[tactic(auto, using(sections::specs::Rows::value_small, sections::specs::Rows::value_least), unfolding(crate::specs::Definers::known_here))]
 pub fn known_here(text: &[u8], p: Places, x: &Number) -> bool
     requires { Inside text.now p }
     ensures { result ≡ known_here text.now p (worth x.now) }
@@ -82,6 +85,7 @@ pub fn known_here(text: &[u8], p: Places, x: &Number) -> bool
 }
 
 // The first line before a place that defines this literal's variable; the place, where none does.
+#[tactic(auto, using(crate::specs::Definers::earlier_first, crate::specs::Definers::earlier_second))]
 pub fn earlier(text: &[u8], p: Places, x: &Number, at: usize) -> usize
     requires inside { Inside text.now p }
     requires at_in_bounds { at ≤ length text.now }

@@ -18,6 +18,7 @@ pub enum Cause {
 }
 
 // The last word of a line.
+#[tactic(auto, using(crate::specs::LemmaLaws::empty_is, crate::specs::LemmaLaws::last_empty, crate::specs::LemmaLaws::last_signed, crate::specs::LemmaLaws::last_value, crate::specs::LemmaLaws::last_right))]
 fn last_cause(text: &[u8], p: usize, x: &Word, j: usize) -> Option<Cause>
     requires { WordAt text.now p x.now }
     ensures { result ≡ last_cause j (with_sign (minus_at text.now p) x.now.number.digits.now) }
@@ -63,6 +64,7 @@ fn words_cause(text: &[u8], at: usize, latches: usize) -> Option<Cause>
 }
 
 // What is wrong with the line at a place, over so many latches, if anything is.
+#[tactic(auto, using(symbols::specs::Walk::is_closed, symbols::specs::Walk::is_open, lines::specs::Past::not_ended), unfolding(crate::specs::Lemmas::lemma_cause))]
 pub fn lemma_cause(text: &[u8], at: usize, latches: usize) -> Option<Cause>
     requires { latches < 18446744073709551610 }
     ensures { result ≡ lemma_cause latches text.now at }

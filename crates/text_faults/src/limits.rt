@@ -27,6 +27,7 @@ pub enum Limit {
 }
 
 // How many spaces a line has: as many as literals, where it is a lemma.
+#[tactic(auto, using(crate::specs::LimitLaws::line_part))]
 fn spaces(text: &[u8], at: usize) -> usize
     requires { at ≤ length text.now }
     ensures { result ≡ count_of 32 (line_at text.now at) }
@@ -51,6 +52,7 @@ fn long_lemma(text: &[u8]) -> Limit
 }
 
 // How many lemmas there are, and their lengths.
+#[tactic(auto, unfolding(crate::specs::Limits::lemmas_limit))]
 fn lemmas_limit(lemmas: &[u8]) -> Limit
     ensures { result ≡ lemmas_limit lemmas.now }
 {
@@ -62,6 +64,7 @@ fn lemmas_limit(lemmas: &[u8]) -> Limit
 }
 
 // No output, and so many bad literals; then the lemmas.
+#[tactic(auto, unfolding(crate::specs::Limits::bads_limit))]
 fn bads_limit(bads: usize, lemmas: &[u8]) -> Limit
     ensures { result ≡ bads_limit bads lemmas.now }
 {
@@ -73,6 +76,7 @@ fn bads_limit(bads: usize, lemmas: &[u8]) -> Limit
 }
 
 // Outputs and bad literals, then the lemmas.
+#[tactic(auto, unfolding(crate::specs::Limits::property_limit))]
 fn property_limit(outputs: usize, bads: usize, lemmas: &[u8]) -> Limit
     ensures { result ≡ property_limit outputs bads lemmas.now }
 {
@@ -89,6 +93,7 @@ fn property_limit(outputs: usize, bads: usize, lemmas: &[u8]) -> Limit
 }
 
 // Inputs and gates, then outputs and bad literals, then the lemmas.
+#[tactic(auto, using(crate::specs::LimitLaws::is_wide, crate::specs::LimitLaws::is_narrow, lines::specs::Numbers::value_is), unfolding(circuit_text::specs::Header::header_at))]
 fn width_limit(h: &Header, lemmas: &[u8]) -> Limit
     ensures { result ≡ width_limit (header_at h.now) lemmas.now }
 {
@@ -99,6 +104,7 @@ fn width_limit(h: &Header, lemmas: &[u8]) -> Limit
 }
 
 // The latches, then the rest.
+#[tactic(auto, using(crate::specs::LimitLaws::no_latch, crate::specs::LimitLaws::many_latches, crate::specs::LimitLaws::few_latches, lines::specs::Numbers::value_is), unfolding(circuit_text::specs::Header::header_at))]
 fn header_limit(h: &Header, lemmas: &[u8]) -> Limit
     ensures { result ≡ header_limit (header_at h.now) lemmas.now }
 {
@@ -113,6 +119,7 @@ fn header_limit(h: &Header, lemmas: &[u8]) -> Limit
 
 // The first limit that the texts are over, in the order of the list; the clauses, which are not counted here, where no other is; none, where
 // there is no header.
+#[tactic(auto, unfolding(crate::specs::Limits::limit_of))]
 pub fn limit_of(text: &[u8], lemmas: &[u8]) -> Option<Limit>
     ensures { result ≡ limit_of text.now lemmas.now }
 {

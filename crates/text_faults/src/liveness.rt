@@ -12,6 +12,7 @@ pub struct Liveness {
 }
 
 // None, where the header is not right.
+#[tactic(auto, using(crate::specs::Liveness::live_is, lines::specs::Numbers::value_is), unfolding(crate::specs::Liveness::liveness_of, circuit_text::specs::Header::header_at))]
 pub fn liveness_of(text: &[u8]) -> Liveness
     ensures { result ≡ liveness_of text.now }
 {

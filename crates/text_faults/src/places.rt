@@ -12,6 +12,7 @@ pub fn count_byte(bytes: &[u8], b: u8) -> usize
 }
 
 // The number of the line at a place, counted from 1.
+#[tactic(auto, unfolding(crate::specs::Places::line_number))]
 pub fn line_number(text: &[u8], at: usize) -> usize
     ensures { result ≡ line_number text.now at }
 {
@@ -22,6 +23,7 @@ pub fn line_number(text: &[u8], at: usize) -> usize
 }
 
 // Where the next line starts; the end of the text, where there is none.
+#[tactic(auto, using(crate::specs::Places::after_closed, crate::specs::Places::after_open))]
 pub fn after_line(text: &[u8], at: usize) -> usize
     requires { at < length text.now }
     ensures { (result ≡ after_line text.now at) × (result ≤ length text.now) × (at < result) }
@@ -34,6 +36,7 @@ pub fn after_line(text: &[u8], at: usize) -> usize
 }
 
 // The line so many lines on.
+#[tactic(auto, using(crate::specs::Places::skip_end), unfolding(crate::specs::Places::skip))]
 pub fn skip(text: &[u8], at: usize, count: usize) -> usize
     requires { at ≤ length text.now }
     ensures { (result ≡ skip count text.now at) × (result ≤ length text.now) }

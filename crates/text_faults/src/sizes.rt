@@ -24,6 +24,7 @@ pub struct Sizes {
 }
 
 // A sum, as far as it is told apart.
+#[tactic(auto, using(crate::specs::Sizes::capped_cases))]
 fn added(a: usize, b: usize) -> usize
     requires { a ≤ huge }
     ensures { (result ≡ capped (a + b)) × (result ≤ huge) }
@@ -49,6 +50,7 @@ fn first_sum(text: &[u8], at: usize, count: usize) -> usize
 }
 
 // Where the counts of the justice properties start.
+#[tactic(auto, using(lines::specs::Numbers::value_is), unfolding(crate::specs::Sizes::counts_at, circuit_text::specs::Header::header_at))]
 fn counts_at(text: &[u8], h: &Header) -> usize
     requires { Parts text.now h.now }
     ensures { (result ≡ counts_at text.now (header_at h.now) h.now.next) × (result ≤ length text.now) }
@@ -59,6 +61,7 @@ fn counts_at(text: &[u8], h: &Header) -> usize
 }
 
 // By the header and the counts.
+#[tactic(auto, using(lines::specs::Numbers::value_is), unfolding(crate::specs::Sizes::sizes_of, circuit_text::specs::Header::header_at))]
 pub fn sizes_of(text: &[u8], h: &Header) -> Sizes
     requires { Parts text.now h.now }
     ensures { result ≡ sizes_of text.now (header_at h.now) h.now.next }

@@ -4,16 +4,6 @@ use native.Mathlib.Omega.{arith}
 use Rattle.text_faults.specs.Places.{skip, skip_end}
 use Rattle.text_faults.proofs.places.skip.Goals as goal
 
-pub loop-done-init : goal.loop-done-init
-loop-done-init c =
-    let all : c.args.count ≡ c.args.count - 0 = omega arith in
-    (ap (λ (n : ℕ). skip n c.args.text.now c.args.at) all, c.requires)
-
-pub returns-then-text-p : goal.returns-then-text-p
-returns-then-text-p c =
-    let l = c.loop-done in
-    (sym (l.invariant.0 ∙ skip_end (c.args.count - l.done) c.args.text.now l.p (omega arith)), l.invariant.1)
-
 pub loop-done-preserved : goal.loop-done-preserved
 unfolding skip
 loop-done-preserved c =
@@ -25,9 +15,3 @@ loop-done-preserved c =
       c.after_line-p.ensures.1,
     )
 
-pub returns : goal.returns
-unfolding skip
-returns c =
-    let l = c.loop-done in
-    let none : c.args.count - l.done ≡ 0 = omega arith in
-    (sym (l.invariant.0 ∙ ap (λ (n : ℕ). skip n c.args.text.now l.p) none), l.invariant.1)

@@ -5,11 +5,6 @@ use Rattle.lines.specs.Numbers.{capped}
 use Rattle.text_faults.specs.Sizes.{first_sum, sum_start, sum_end, sum_done, first_is, sum_on}
 use Rattle.text_faults.proofs.sizes.first_sum.Goals as goal
 
-pub loop-done-init : goal.loop-done-init
-loop-done-init c =
-    let all : c.args.count - 0 ≡ c.args.count = omega arith in
-    (ap (λ (n : ℕ). capped (0 + first_sum n c.args.text.now c.args.at)) all ∙ sum_start _, c.requires, omega arith)
-
 pub returns-then-text-p : goal.returns-then-text-p
 returns-then-text-p c =
     let l = c.loop-done in
