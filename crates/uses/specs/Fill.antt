@@ -17,7 +17,7 @@ use Rattle.sections.specs.declared.circuit.Circuit.{Circuit}
 use Rattle.sections.specs.Lists.{first_lines, line_after, variables_length}
 use Rattle.sections.specs.Whole.{circuit_at, sections_of, lines_of, gates_are, gate_count}
 use Rattle.uses.specs.Sources.{source_of}
-use Rattle.uses.specs.Solve.{is_done, Sized, Solved}
+use Rattle.uses.specs.Solve.{is_done, InReach, Solved}
 use Rattle.uses.specs.Passing.{line_here}
 use Rattle.uses.specs.Works.{nth_gate, source_most, works_is}
 
@@ -109,17 +109,8 @@ sources_most text c u =
     subst (λ (n : ℕ). source_of (circuit_at text c) u ≤ n + 1) (ap length (gates_are text c) ∙ variables_length text c.gates)
     (source_most (circuit_at text c) u)
 
-pub filled_sized : (text : List ℕ) (c : Circuit) (left right : List ℕ) (d : List Bool) → c.gates.count ≤ 10922 → Filled text c 1 left c.gates.count
-    → Filled text c 2 right c.gates.count → length d ≡ 10925 → Sized left right d c.gates.count
-filled_sized text c left right d few l r long =
-    record {
-      few = few;
-      left_long = omega (arith, l.long);
-      right_long = omega (arith, r.long);
-      done_long = omega (arith, long);
-      left_in = λ i h. subst (λ (a : ℕ). a ≤ c.gates.count + 1) (sym (l.is i h)) (sources_most text c (var (gate_number text c 1 i)));
-      right_in = λ i h. subst (λ (a : ℕ). a ≤ c.gates.count + 1) (sym (r.is i h)) (sources_most text c (var (gate_number text c 2 i)));
-    }
+pub filled_in : (text : List ℕ) (c : Circuit) (j : ℕ) (xs : List ℕ) → Filled text c j xs c.gates.count → InReach xs c.gates.count
+filled_in text c j xs f i h = subst (λ (a : ℕ). a ≤ c.gates.count + 1) (sym (f.is i h)) (sources_most text c (var (gate_number text c j i)))
 
 -- each gate line's mark says whether it can be worked out
 pub marks_are : (text : List ℕ) (c : Circuit) (left right : List ℕ) (d after : List Bool) → Once (gate_variables (circuit_at text c))

@@ -1,7 +1,7 @@
 -- Rounds over the gates, as numbers: a gate's two literals come from somewhere (left, right), and what is worked out is marked (done).
 use Rattle.std.specs.Prelude.{ℕ, zero, suc, ◌+◌, ◌≤◌, ◌<◌, ◌≡◌, ◌⊎◌, Bool, ◌&&◌, cond, length, set, eqb}
 use native.Mathlib.Omega.{arith}
-use Rattle.std.proofs.Common.{add-one, sym, subst, ◌∙◌, inl, inr, get_or-set_other}
+use Rattle.std.proofs.Common.{add-one, sym, ◌∙◌, inl, inr, get_or-set_other}
 use Rattle.std.proofs.Math.Path.{refl, ap}
 use Rattle.std.proofs.Math.Bool.{true, false, not}
 use mathlib.Core.List.{List, [], ◌∷◌}
@@ -18,14 +18,9 @@ is_done d k = get_or d k false
 unfoldable pub ready : List ℕ → List ℕ → List Bool → ℕ → Bool
 ready left right d i = not (is_done d (suc i)) && (is_done d (get_or left i 0) && is_done d (get_or right i 0))
 
--- the three lists are long enough, and what they name is in reach
-pub record Sized (left right : List ℕ) (d : List Bool) (count : ℕ) : Type 0 where
-  pub few : count ≤ 10922
-  pub left_long : count ≤ length left
-  pub right_long : count ≤ length right
-  pub done_long : count + 2 ≤ length d
-  pub left_in : (i : ℕ) → i < count → get_or left i 0 ≤ count + 1
-  pub right_in : (i : ℕ) → i < count → get_or right i 0 ≤ count + 1
+-- where the literals of so many gates come from: a gate, or one more than the last
+abbrev pub InReach : List ℕ → ℕ → Type 0
+InReach from count = (i : ℕ) → i < count → get_or from i 0 ≤ count + 1
 
 -- P holds of a gate where it holds of where its literals come from
 abbrev pub Carried : List ℕ → List ℕ → ℕ → (ℕ → Bool) → Type 0
@@ -246,14 +241,3 @@ pub rounds_end : {left right : List ℕ} {count : ℕ} {d after next : List Bool
     → Swept left right count after next made → made ≡ 0 → Solved left right count d next
 rounds_end r s e =
     let on = rounds_next r s in record { long = on.long; keeps = on.keeps; carried = on.carried; still = s.still e }
-
-pub sized_still : {left right : List ℕ} {d after : List Bool} {count : ℕ} → Sized left right d count → length after ≡ length d → Sized left right after count
-sized_still {left} {right} {d} {after} {count} s e =
-    record {
-      few = s.few;
-      left_long = s.left_long;
-      right_long = s.right_long;
-      done_long = subst (λ (k : ℕ). count + 2 ≤ k) (sym e) s.done_long;
-      left_in = s.left_in;
-      right_in = s.right_in;
-    }

@@ -9,7 +9,7 @@ ghost use Rattle.uses.specs.Fill.{Filled};
 ghost use Rattle.uses.specs.Stuck.{gate_passes, properties_fault, Distinct, MarksAre};
 
 use crate::first::first_unknown;
-use crate::gates::solve;
+use crate::gates::Gates;
 use crate::source::source;
 use lines::fault::Fault;
 use lines::line::next_line;
@@ -83,7 +83,12 @@ fn gates_fault(text: &[u8], c: Circuit) -> Result<(), Fault>
     fill(text, c, 2, &mut right);
     let mut done = nothing_done();
     done[0] = true;
-    solve(&left, &right, &mut done, c.gates.count);
+    let gates = Gates {
+        left: &left,
+        right: &right,
+        count: c.gates.count,
+    };
+    gates.solve(&mut done);
     first_stuck(text, c, &done)
 }
 

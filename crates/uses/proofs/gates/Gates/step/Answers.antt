@@ -1,6 +1,6 @@
 use mathlib.Core.Path.{sym, ◌∙◌}
 use Rattle.uses.specs.Solve.{after_step}
-use Rattle.uses.proofs.gates.step.Goals as goal
+use Rattle.uses.proofs.gates.Gates.step.Goals as goal
 
 pub returns-then-is_ready : goal.returns-then-is_ready
 unfolding after_step

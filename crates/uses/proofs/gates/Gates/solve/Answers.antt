@@ -1,6 +1,6 @@
 use native.Mathlib.Omega.{arith}
 use Rattle.uses.specs.Solve.{rounds_next, rounds_end, ones_most}
-use Rattle.uses.proofs.gates.solve.Goals as goal
+use Rattle.uses.proofs.gates.Gates.solve.Goals as goal
 
 pub loop-smaller : goal.loop-smaller
 loop-smaller c =

@@ -2,7 +2,7 @@ use Prim.Native.Nat.{ℕ}
 use mathlib.Core.Path.{sym, ap, ◌∙◌}
 use Rattle.std.specs.Prelude.{false, get_or}
 use Rattle.uses.specs.Solve.{ready_not, ready_left, ready_right}
-use Rattle.uses.proofs.gates.is_ready.Goals as goal
+use Rattle.uses.proofs.gates.Gates.is_ready.Goals as goal
 
 pub returns-then-done-i : goal.returns-then-done-i
 returns-then-done-i c = ready_not _ _ _ _ c.if-done-i.true
