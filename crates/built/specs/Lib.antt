@@ -3,5 +3,6 @@ pub mod Cuts
 pub mod Edges
 pub mod Turns
 pub mod Clause
+pub mod Walk
 pub mod Sections
 pub mod Problem

@@ -131,11 +131,11 @@ line_here kind clauses text at p i is = ap (λ (q : ℕ). clause_records kind (c
 -- ---- one gate, and one latch
 
 -- the three clauses of a gate, with the negations that the code makes
-pub and_split : (kind : ℕ) (g a b g' a' b' : Built.Edge) → g' ≡ opposite g → a' ≡ opposite a → b' ≡ opposite b
+pub and_split : (kind : ℕ) (g a b : Built.Edge) {g' a' b' : Built.Edge} → g' ≡ opposite g → a' ≡ opposite a → b' ≡ opposite b
     → Three (clause_records kind (and_clauses g a b)) (clause_records kind (clause_if (a ∷ g' ∷ [])))
     (clause_records kind (clause_if (b ∷ g' ∷ []))) (clause_records kind (clause_if (g ∷ a' ∷ b' ∷ [])))
 unfolding and_clauses
-and_split kind g a b g' a' b' p q r =
+and_split kind g a b p q r =
     let first = clause_if (a ∷ opposite g ∷ []) in
     let second = clause_if (b ∷ opposite g ∷ []) in
     let third = clause_if (g ∷ opposite a ∷ opposite b ∷ []) in
@@ -152,10 +152,10 @@ unfolding gate_clauses
 gate_as kind c ns g a b p q r = rw (p, q, r)
 
 -- the two clauses of a latch, with the edges that the code makes
-pub same_split : (y : ℕ) (x off on x' : Built.Edge) → off ≡ named (literal_if true y) → on ≡ opposite off → x' ≡ opposite x
+pub same_split : (y : ℕ) (x : Built.Edge) {off on x' : Built.Edge} → off ≡ named (literal_if true y) → on ≡ opposite off → x' ≡ opposite x
     → Two (clause_records 3 (next_clauses y x)) (clause_records 3 (clause_if (off ∷ x ∷ []))) (clause_records 3 (clause_if (on ∷ x' ∷ [])))
 unfolding next_clauses literal_if opposite negation
-same_split y x off on x' off_is on_is is =
+same_split y x off_is on_is is =
     record {
       is =
           rw (is, on_is, off_is)

@@ -37,6 +37,7 @@ fn put_edge(out: &mut Records<'_>, e: Edge)
 }
 
 // Writes the clause of up to three edges, if there is one.
+// A kind is a number, and no enum: it is the one that the record has in the file, which `clause_records kind` of meaning fixes.
 pub fn put_clause(out: &mut Records<'_>, kind: usize, edges: &[Edge])
     requires kind_bound { kind < 65536 }
     requires edges_bound { length edges.now ≤ 3 }

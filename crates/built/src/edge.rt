@@ -24,7 +24,7 @@ pub enum Edge {
 }
 
 impl Edge {
-    // Its negation.
+    // Its negation. Not std's `Not`: the definition's own word, `opposite` of meaning, is no less plain than `!e`.
     pub fn opposite(self) -> Edge
         ensures { (edge_of result ≡ opposite (edge_of self)) × (variable_of result ≡ variable_of self) }
     {

@@ -11,7 +11,7 @@ ghost use Rattle.records.specs.Puts.{Puts, HasRoom};
 
 use crate::clause::put_clause;
 use crate::edge::{Edge, edge_at};
-use lines::line::next_line;
+use crate::walk::put_lines;
 use records::Records;
 use sections::circuit::Circuit;
 
@@ -50,9 +50,10 @@ pub fn put_gates(text: &[u8], c: Circuit, out: &mut Records<'_>, kind: usize)
     requires c_in_bounds { HasRoom (clause_records kind (gates_clauses (circuit_at text.now c) (circuit_at text.now c).gates)) out.old }
     ensures { Puts (clause_records kind (gates_clauses (circuit_at text.now c) (circuit_at text.now c).gates)) out.old out.new }
 {
-    let mut line = c.gates.at;
-    for _ in 0..c.gates.count {
-        put_gate(text, c, line, out, kind);
-        line = next_line(text, line);
-    }
+    put_lines(
+        text,
+        c.gates,
+        out,
+        |line, _, out| put_gate(text, c, line, out, kind),
+    );
 }

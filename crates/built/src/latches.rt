@@ -12,8 +12,8 @@ ghost use Rattle.records.specs.Puts.{Puts, HasRoom};
 use crate::clause::put_clause;
 use crate::edge::{Edge, edge_at};
 use crate::literal::Literal;
+use crate::walk::put_lines;
 use clause_count::start::start_at;
-use lines::line::next_line;
 use records::Records;
 use sections::circuit::Circuit;
 
@@ -40,11 +40,12 @@ pub fn put_starts(text: &[u8], c: Circuit, out: &mut Records<'_>)
     requires c_in_bounds { HasRoom (clause_records 2 (start_clauses 1 (circuit_at text.now c).latches)) out.old }
     ensures { Puts (clause_records 2 (start_clauses 1 (circuit_at text.now c).latches)) out.old out.new }
 {
-    let mut line = c.latches.at;
-    for i in 0..c.latches.count {
-        put_start(text, line, i, out);
-        line = next_line(text, line);
-    }
+    put_lines(
+        text,
+        c.latches,
+        out,
+        |line, i, out| put_start(text, line, i, out),
+    );
 }
 
 // The two clauses that make variable y what x is.
@@ -82,9 +83,10 @@ pub fn put_latches(text: &[u8], c: Circuit, out: &mut Records<'_>)
     requires c_in_bounds { HasRoom (clause_records 3 (latches_clauses (circuit_at text.now c) 1 (circuit_at text.now c).latches)) out.old }
     ensures { Puts (clause_records 3 (latches_clauses (circuit_at text.now c) 1 (circuit_at text.now c).latches)) out.old out.new }
 {
-    let mut line = c.latches.at;
-    for i in 0..c.latches.count {
-        put_latch(text, c, line, i, out);
-        line = next_line(text, line);
-    }
+    put_lines(
+        text,
+        c.latches,
+        out,
+        |line, i, out| put_latch(text, c, line, i, out),
+    );
 }

@@ -18,6 +18,7 @@ pub mod gates;
 pub mod latches;
 pub mod literal;
 pub mod ones;
+pub mod walk;
 
 use clause_count::bad::bad_lines;
 use gates::put_gates;
@@ -59,6 +60,7 @@ fn put_tr(text: &[u8], c: Circuit, out: &mut Records<'_>)
 }
 
 // Bad: the gates again, then the bad literal, then the constraints.
+// Not one function with put_tr: the middle part and its `requires` differ, and what they share is the two calls around it.
 fn put_bad(text: &[u8], c: Circuit, out: &mut Records<'_>)
     requires small { Small text.now c }
     requires one_bad { OneBad c.properties }
@@ -72,6 +74,7 @@ fn put_bad(text: &[u8], c: Circuit, out: &mut Records<'_>)
 }
 
 // Writes the file of the problem that is built, from the start, and says how long it is.
+// A slice and a length, and no Records: the promise that docs/PROOFS.md names is of the caller's slice.
 pub fn write_problem(text: &[u8], c: Circuit, lemmas: &[u8], out: &mut [u8]) -> usize
     requires small { Small text.now c }
     requires one_bad { OneBad c.properties }

@@ -12,7 +12,7 @@ ghost use Rattle.records.specs.Puts.{Puts, HasRoom};
 
 use crate::clause::put_clause;
 use crate::edge::edge_at;
-use lines::line::next_line;
+use crate::walk::put_lines;
 use records::Records;
 use sections::circuit::Circuit;
 use sections::find::Lines;
@@ -37,9 +37,10 @@ pub fn put_ones(text: &[u8], c: Circuit, s: Lines, out: &mut Records<'_>, kind: 
     requires s_in_bounds { HasRoom (clause_records kind (one_clauses (circuit_at text.now c) (literals_of text.now s))) out.old }
     ensures { Puts (clause_records kind (one_clauses (circuit_at text.now c) (literals_of text.now s))) out.old out.new }
 {
-    let mut line = s.at;
-    for _ in 0..s.count {
-        put_one(text, c, line, out, kind);
-        line = next_line(text, line);
-    }
+    put_lines(
+        text,
+        s,
+        out,
+        |line, _, out| put_one(text, c, line, out, kind),
+    );
 }
