@@ -7,8 +7,8 @@ use Rattle.text_faults.specs.Circuits.{symbol_cause}
 use Rattle.text_faults.specs.CauseLaws.{closed_end}
 use Rattle.text_faults.proofs.circuit.symbol_cause.Goals as goal
 
-pub named_right-requires-clause-end_in_bounds : goal.named_right-requires-clause-end_in_bounds
-named_right-requires-clause-end_in_bounds c =
+pub invariant_of-line-clause-closed : goal.invariant_of-line-clause-closed
+invariant_of-line-clause-closed c =
     let a = c.args in
     let end = c.line_end-end in
     closed_end a.text.now a.at end.result end.ensures c.requires.at_value
@@ -17,12 +17,6 @@ pub returns-then-not-named_right : goal.returns-then-not-named_right
 unfolding symbol_cause
 returns-then-not-named_right c =
     rw (sym c.named_right.ensures ∙ c.if-not-named_right.true)
-
-pub named_right-requires-2-clause-end_in_bounds : goal.named_right-requires-2-clause-end_in_bounds
-named_right-requires-2-clause-end_in_bounds c =
-    let a = c.args in
-    let end = c.line_end-end in
-    closed_end a.text.now a.at end.result end.ensures c.requires.at_value
 
 pub returns-then-not-named_right-2 : goal.returns-then-not-named_right-2
 unfolding symbol_cause
