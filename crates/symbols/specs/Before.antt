@@ -1,6 +1,6 @@
 -- Symbol lines before a place: what they name, and how they are walked from the first on.
 use Rattle.std.specs.Prelude.{ℕ, ◌+◌, ◌≤◌, ◌<◌, ◌≡◌, Bool, ◌&&◌, ◌||◌, cond, length, get_or, drop, ltb, leb, eqb}
-use Rattle.std.proofs.Common.{arith, ◌∙◌, leb-true, ltb-true, eq-eqb, ne_eqb}
+use Rattle.std.proofs.Common.{arith, ◌∙◌, leb-true, ltb-true}
 use Rattle.std.proofs.Math.Path.{refl, sym, ap, subst}
 use Rattle.std.proofs.Math.Bool.{true, false, not}
 use mathlib.Core.List.{List, [], ◌∷◌, ◌++◌}
@@ -72,16 +72,11 @@ pub symbol_is : (text : List ℕ) (at : ℕ) → Named text at → (letter place
 unfolding symbol
 symbol_is text at named letter place l p = rw (l ∙ sym named.letter, p)
 
--- another letter, or the positions compared
-module _ (text : List ℕ) (at : ℕ) (named : Named text at) (letter place : ℕ) where
-  pub other_letter : (letter ≡ get_or text at 0 → ⊥) → false ≡ same_symbol (symbol letter place) (symbol_of (line_at text at))
-  unfolding same_symbol symbol
-  other_letter other = sym (rw (ne_eqb letter (symbol_of (line_at text at)).letter (λ e. other (e ∙ named.letter))))
-
-  pub same_letter : letter ≡ get_or text at 0 → (n : ℕ) → n ≡ (symbol_of (line_at text at)).at
-      → eqb place n ≡ same_symbol (symbol letter place) (symbol_of (line_at text at))
-  unfolding same_symbol symbol
-  same_letter same n is = sym (rw (eq-eqb letter (symbol_of (line_at text at)).letter (same ∙ sym named.letter), is))
+-- two symbols are the same where their letters and their places are
+pub compared : (letter place letter' place' : ℕ) (s : Symbol) → symbol letter' place' ≡ s → (same : Bool)
+    → same ≡ (eqb letter letter' && eqb place place') → same ≡ same_symbol (symbol letter place) s
+unfolding same_symbol symbol
+compared letter place letter' place' s is same same_is = same_is ∙ ap (same_symbol (symbol letter place)) is
 
 -- ---- lines from one place to another
 

@@ -10,9 +10,8 @@ ghost use Rattle.meaning.specs.CircuitText.{symbols_fault};
 ghost use Rattle.lines.specs.Faults.{fault_of};
 ghost use Rattle.symbols.specs.Symbols.{header_from, Small};
 
-use line::{begins_comment, line_end};
+use line::line_from;
 use lines::fault::Fault;
-use symbol::line_right;
 
 // How many there are to name: inputs, latches, outputs, bad literals, constraints, justice properties and fairness constraints.
 #[derive(Clone, Copy)]
@@ -35,17 +34,16 @@ pub fn symbols_fault(text: &[u8], counts: Counts, judged: bool, at: usize) -> Re
     let mut p = at;
     // A walk from line to line, and so by places that jump: nothing is counted by hand.
     while p < text.len() {
-        let end = line_end(text, p);
-        if text.len() <= end {
+        let Some(line) = line_from(text, p) else {
             return Err(Fault { at: p });
-        }
-        if begins_comment(text, p, end) {
+        };
+        if line.begins_comment() {
             return Ok(());
         }
-        if !line_right(text, counts, judged, at, p, end) {
+        if !line.is_right(counts, judged, at) {
             return Err(Fault { at: p });
         }
-        p = end + 1;
+        p = line.end + 1;
     }
     Ok(())
 }

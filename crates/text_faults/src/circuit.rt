@@ -13,8 +13,7 @@ use crate::places::line_number;
 use crate::sizes::{Sizes, sizes_of};
 use circuit_text::header::{Header, read_header};
 use symbols::Counts;
-use symbols::line::line_end;
-use symbols::symbol::named_right;
+use symbols::line::{Line, line_end};
 
 // The kind of a line, and why it is refused.
 #[derive(Clone, Copy)]
@@ -55,6 +54,7 @@ fn symbol_cause(text: &[u8], at: usize, s: Sizes) -> Cause
     ensures { result ≡ symbol_cause text.now at s }
 {
     let end = line_end(text, at);
+    let line = Line { text, at, end };
     let most = 18446744073709551609;
     let any = Counts {
         i: most,
@@ -65,11 +65,11 @@ fn symbol_cause(text: &[u8], at: usize, s: Sizes) -> Cause
         j: most,
         f: most,
     };
-    if !named_right(text, any, at, end) {
+    if !line.named_right(any) {
         return Cause::SymbolForm;
     }
     let counts = counts_of(s);
-    if !named_right(text, counts, at, end) {
+    if !line.named_right(counts) {
         return Cause::SymbolRange;
     }
     Cause::SymbolTwice
