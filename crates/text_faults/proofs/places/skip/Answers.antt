@@ -1,7 +1,7 @@
 use Prim.Native.Nat.{◌-◌, ◌+◌, suc, ℕ}
 use mathlib.Core.Path.{◌≡◌, sym, ap, ◌∙◌}
 use native.Mathlib.Omega.{arith}
-use Rattle.text_faults.specs.Places.{skip, skip_end}
+use Rattle.text_faults.specs.Places.{skip}
 use Rattle.text_faults.proofs.places.skip.Goals as goal
 
 pub loop-done-preserved : goal.loop-done-preserved
@@ -14,4 +14,3 @@ loop-done-preserved c =
       l.invariant.0 ∙ ap (λ (m : ℕ). skip m t l.p) less ∙ ap (skip (n - (l.done + 1)) t) (sym c.after_line-p.ensures.0),
       c.after_line-p.ensures.1,
     )
-

@@ -2,7 +2,7 @@ use Prim.Native.Nat.{ℕ, suc, ◌+◌, ◌-◌}
 use mathlib.Core.Path.{◌≡◌, sym, ap, ◌∙◌}
 use native.Mathlib.Omega.{arith}
 use Rattle.lines.specs.Numbers.{capped}
-use Rattle.text_faults.specs.Sizes.{first_sum, sum_start, sum_end, sum_done, first_is, sum_on}
+use Rattle.text_faults.specs.Sizes.{first_sum, sum_end, sum_done, first_is, sum_on}
 use Rattle.text_faults.proofs.sizes.first_sum.Goals as goal
 
 pub returns-then-text-p : goal.returns-then-text-p
