@@ -3,29 +3,12 @@ use Rattle.std.specs.Prelude.{ℕ, ◌+◌, ◌≤◌, ◌<◌, ◌≡◌, Bool,
 use Rattle.std.proofs.Common.{ap, ◌∙◌, arith, ltb-true, le-leb}
 use Rattle.meaning.specs.File.{between}
 use Rattle.meaning.specs.Lines.{line_at, ended, next_line, words, of_numbers}
-use Rattle.meaning.specs.CircuitText.{Header}
 use Rattle.laws.specs.Basics.{and_left, and_right}
 use Rattle.lines.specs.Past.{line_past}
 use Rattle.sections.specs.Split.{numbers_count, numbers_all}
-use Rattle.symbols.specs.declared.Counts.{Counts}
 use Rattle.symbols.specs.Symbols.{LineTo}
 use Rattle.circuit_text.specs.Header.{WidthIs}
 use Rattle.text_faults.specs.Causes.{numbered, five_to_nine, Row}
-use Rattle.text_faults.specs.declared.sizes.Sizes.{Sizes}
-use Rattle.text_faults.specs.declared.kind.Kind.{Kind}
-use Rattle.text_faults.specs.declared.cause.Cause.{Cause}
-use Rattle.text_faults.specs.declared.circuit.Fault.{Fault}
-use Rattle.text_faults.specs.Places.{line_number}
-use Rattle.text_faults.specs.Sizes.{sizes_of}
-use Rattle.text_faults.specs.Kinds.{kind_of}
-use Rattle.text_faults.specs.Circuits.{below_huge, counts_of, line_cause, line_fault}
-
--- what is chosen where the test is known
-pub chosen : {A : Type 0} (b : Bool) (x y : A) → b ≡ true → cond b x y ≡ x
-chosen b x y e = rw e
-
-pub passed : {A : Type 0} (b : Bool) (x y : A) → b ≡ false → cond b x y ≡ y
-passed b x y e = rw e
 
 -- a place after a line of so many numbers tells that it is one
 pub numbered_is : (width : ℕ) (text : List ℕ) (at : ℕ) (r : Option ℕ) → r ≡ line_past width text at → is_some r ≡ numbered width text at
@@ -74,22 +57,3 @@ no_numbers text (Some r) is none = absurd (cc)
 pub closed_end : (text : List ℕ) (at end : ℕ) → LineTo text at end → ended text at ≡ true → end < length text
 unfolding ended
 closed_end text at end line h = omega (arith, line.is, ltb-true (at + length (line_at text at)) (length text) h)
-
--- the counts of a header
-pub counts_are : (s : Sizes) (i l o b c j f : ℕ) → i ≡ below_huge s.inputs → l ≡ below_huge s.latches → o ≡ below_huge s.outputs
-    → b ≡ below_huge s.bads → c ≡ below_huge s.constraints → j ≡ below_huge s.counts → f ≡ below_huge s.fairness
-    → ◌≡◌ {A = Counts} (record { i = i; l = l; o = o; b = b; c = c; j = j; f = f }) (counts_of s)
-unfolding counts_of
-counts_are s i l o b c j f ei el eo eb ec ej ef =
-    λ k. record { i = ei k; l = el k; o = eo k; b = eb k; c = ec k; j = ej k; f = ef k }
-
--- a fault put together
-pub fault_is : (text : List ℕ) (at : ℕ) (h h' : Header) (s : Sizes) (kind : Kind) (cause : Cause) (n next : ℕ) → h ≡ h'
-    → n ≡ line_number text at → next ≡ next_line text 0 → s ≡ sizes_of text h next → kind ≡ kind_of s n
-    → cause ≡ line_cause text at kind h s next
-    → ◌≡◌ {A = Fault} (record { kind = kind; cause = cause }) (line_fault text at h' (sizes_of text h' (next_line text 0)))
-fault_is text at h h' s kind cause n next eh en ex es ek ec =
-    let fs = es ∙ (λ k. sizes_of text (eh k) (ex k)) in
-    let fk = ek ∙ (λ k. kind_of (fs k) (en k)) in
-    let fc = ec ∙ (λ k. line_cause text at (fk k) (eh k) (fs k) (ex k)) in
-    λ k. record { kind = fk k; cause = fc k }

@@ -88,7 +88,8 @@ impl Line<'_> {
         j < self.width && !used_right(self.m, &nth(self.text, self.at, j))
     }
 
-    // Whether no line defines the variable of number j: the same test as `out` but for the question, which as a closure would need a contract of its own.
+    // Whether no line defines the variable of number j.
+    // One with `out` is no plainer: the question would be a closure, which needs a contract of its own, longer than this line of code.
     #[tactic(auto, unfolding(crate::specs::Causes::unknown_at))]
     fn unknown_at(&self, j: usize) -> bool
         ensures { result ≡ unknown_at self.now.text.now self.now.at self.now.width j self.now.p }
@@ -178,6 +179,7 @@ impl Line<'_> {
 }
 
 // A line of so many numbers.
+// It is public and takes no `Line`: no type may stand in place of what it asks. The same holds of `form_cause`.
 #[tactic(auto, unfolding(crate::specs::Causes::literals_cause))]
 pub fn literals_cause(
     text: &[u8],

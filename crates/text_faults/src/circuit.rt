@@ -117,15 +117,14 @@ fn line_cause(text: &[u8], at: usize, kind: Kind, h: &Header, s: Sizes) -> Cause
 fn header_fault(text: &[u8]) -> Fault
     ensures { result ≡ header_fault text.now }
 {
-    if text.len() == 0 {
-        return Fault {
-            kind: Kind::Header,
-            cause: Cause::Missing,
-        };
-    }
+    let cause = if text.is_empty() {
+        Cause::Missing
+    } else {
+        header_cause(text)
+    };
     Fault {
         kind: Kind::Header,
-        cause: header_cause(text),
+        cause,
     }
 }
 
@@ -146,6 +145,7 @@ pub fn circuit_fault(text: &[u8], at: usize) -> Fault
 }
 
 // How many latches a header has, as far as they are told apart; none, where it is not right.
+// That is 0 and no Option, as `latches_of` in specs/Circuits.antt says.
 #[tactic(auto, using(lines::specs::Numbers::value_is), unfolding(crate::specs::Circuits::latches_of, circuit_text::specs::Header::header_at))]
 pub fn latches_of(text: &[u8]) -> usize
     ensures { (result ≡ latches_of text.now) × (result < 18446744073709551610) }

@@ -54,11 +54,13 @@ pub fn places_of(text: &[u8], s: Sizes, next: usize) -> Places
 }
 
 // The first line from a place on, and before another, whose first number has this literal's variable; that other, where none has.
+// No Option: `definer` and `earlier` are public and promise a place, and `told_so` in specs/So.antt tells by it whether a line was found.
 pub fn definer(text: &[u8], x: &Number, from: usize, to: usize) -> usize
     requires { to ≤ length text.now }
     ensures { result ≡ definer (length text.now) text.now (var (worth x.now)) from to }
 {
     let mut p = from;
+    // No `for`: the place goes from line to line, and nothing is counted by hand.
     while p < to {
         let y = number_at(text, p);
         if same_variable(x, &y) {

@@ -41,6 +41,7 @@ fn long_lemma(text: &[u8]) -> Limit
     ensures { result ≡ long_lemma (length text.now) text.now 0 }
 {
     let mut p: usize = 0;
+    // No `for`: the place goes from line to line, and nothing is counted by hand.
     while p < text.len() {
         let met = spaces(text, p);
         if 64 < met {
