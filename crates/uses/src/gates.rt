@@ -2,7 +2,8 @@
 ghost use Rattle.std.specs.Prelude.{◌≡◌, cond, ◌<◌, ◌≤◌};
 ghost use Rattle.uses.specs.Solve.{ready, after_step, InReach, Swept, Solved};
 
-// Where the two literals of each gate come from, lent: the memory is fixed, with no heap. What is worked out is marked beside it.
+// Where the two literals of each gate come from, lent: no array is moved. What is worked out is marked beside it.
+// Arrays of a fixed size: fixed memory and no heap; two lists and not one of pairs, since the theorem `works_is` speaks of two.
 #[derive(Clone, Copy)]
 pub struct Gates<'a> {
     pub left: &'a [u16; 10923],
