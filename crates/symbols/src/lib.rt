@@ -14,6 +14,7 @@ use line::line_from;
 use lines::fault::Fault;
 
 // How many there are to name: inputs, latches, outputs, bad literals, constraints, justice properties and fairness constraints.
+// That each is below HUGE stays a clause (`Small`): in the type it would put seven proofs into the definitions `any_count` and `counts_of`.
 #[derive(Clone, Copy)]
 pub struct Counts {
     pub i: usize,
