@@ -1,5 +1,5 @@
 -- Which job an order asks for, and how many bytes are lent to it.
-use Rattle.std.specs.Prelude.{ℕ}
+use Rattle.std.specs.Prelude.{ℕ, Option, None, Some}
 use Rattle.meaning.specs.Calls.{Program, check_call, largest_call, one_call, list_call}
 use Rattle.words.specs.declared.order.Job as Ordered
 use Rattle.words.specs.declared.order.Job.TheVariants as ordered
@@ -7,15 +7,15 @@ use Rattle.told.specs.declared.answers.Job.{Job}
 use Rattle.told.specs.declared.answers.Job.TheVariants.{Check, Largest, One, List as Listing}
 
 -- the job that a word names (problem, help and version have none, and never come here)
-abbrev pub job_told : Ordered.Job → Job
-job_told ordered.Awaited = Check
-job_told ordered.Check = Check
-job_told ordered.Largest = Largest
-job_told ordered.One = One
-job_told ordered.List = Listing
-job_told ordered.Problem = Check
-job_told ordered.Help = Check
-job_told ordered.Version = Check
+abbrev pub job_told : Option Ordered.Job → Job
+job_told None = Check
+job_told (Some ordered.Check) = Check
+job_told (Some ordered.Largest) = Largest
+job_told (Some ordered.One) = One
+job_told (Some ordered.List) = Listing
+job_told (Some ordered.Problem) = Check
+job_told (Some ordered.Help) = Check
+job_told (Some ordered.Version) = Check
 
 -- the call that a job is
 abbrev pub job_call : Job → Program

@@ -7,19 +7,17 @@ use format::Problem;
 use problem::Report;
 use told::Job;
 
-// The job that a word names.
-pub fn job_told(job: words::Job) -> Job
+// The job that a word names. No `From`: both types are of other crates, so an impl could not stand here.
+pub fn job_told(job: Option<words::Job>) -> Job
     ensures { result ≡ job_told job }
 {
     match job {
-        words::Job::Awaited => Job::Check,
-        words::Job::Check => Job::Check,
-        words::Job::Largest => Job::Largest,
-        words::Job::One => Job::One,
-        words::Job::List => Job::List,
-        words::Job::Problem => Job::Check,
-        words::Job::Help => Job::Check,
-        words::Job::Version => Job::Check,
+        Some(words::Job::Largest) => Job::Largest,
+        Some(words::Job::One) => Job::One,
+        Some(words::Job::List) => Job::List,
+        None
+        | Some(words::Job::Check | words::Job::Problem | words::Job::Help | words::Job::Version) =>
+            Job::Check,
     }
 }
 
@@ -29,8 +27,7 @@ pub fn lent_bytes(job: Job, space: usize) -> usize
 {
     match job {
         Job::Check => 0,
-        Job::Largest => Problem::LEMMAS_MOST,
-        Job::One => Problem::LEMMAS_MOST,
+        Job::Largest | Job::One => Problem::LEMMAS_MOST,
         Job::List => space,
     }
 }

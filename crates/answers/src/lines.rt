@@ -9,6 +9,7 @@ use text::row_end;
 use told::Job;
 
 // k of a file.
+#[tactic(auto, unfolding(crate::specs::Lines::k_of))]
 pub fn k_of(file: &[u8]) -> usize
     ensures { result ≡ k_of file.now }
 {
@@ -18,25 +19,15 @@ pub fn k_of(file: &[u8]) -> usize
 fn is_list(job: Job) -> bool
     ensures { result ≡ is_list job }
 {
-    match job {
-        Job::Check => false,
-        Job::Largest => false,
-        Job::One => false,
-        Job::List => true,
-    }
+    matches!(job, Job::List)
 }
 
-// An answer has a head line, and so has a listing of an accepted file, refused or not.
+// An answer has a head line, and so has a listing of an accepted file, refused or not. The numbers are those of the C interface's report.
+#[tactic(auto, unfolding(crate::specs::Lines::has_head))]
 fn has_head(list: bool, number: u32) -> bool
     ensures { result ≡ has_head list number }
 {
-    if number == 0 {
-        return true;
-    }
-    if !list {
-        return false;
-    }
-    10 <= number
+    number == 0 || (list && 10 <= number)
 }
 
 // The head line.
@@ -50,10 +41,7 @@ pub fn head_text(
 ) -> usize
     ensures { Holds page.old (head_text marks job file.now (report_of r) lent.now) page.new result }
 {
-    if marks {
-        return 0;
-    }
-    if !has_head(is_list(job), r.number) {
+    if marks || !has_head(is_list(job), r.number) {
         return 0;
     }
     let k = k_of(file);
@@ -74,13 +62,13 @@ pub fn sets_told(job: Job, r: Report) -> usize
 {
     match job {
         Job::Check => 0,
-        Job::Largest => marking_sets(r.number),
-        Job::One => marking_sets(r.number),
+        Job::Largest | Job::One => marking_sets(r.number),
         Job::List => r.rows,
     }
 }
 
 // Before the lemmas of a set: its marks alone, or for a listing its number.
+#[tactic(auto, unfolding(crate::specs::Lines::set_text))]
 pub fn set_text(marks: bool, job: Job, number: usize, set: &[u8], page: &mut [u8]) -> usize
     ensures { Holds page.old (set_text marks job number set.now) page.new result }
 {
@@ -94,6 +82,7 @@ pub fn set_text(marks: bool, job: Job, number: usize, set: &[u8], page: &mut [u8
 }
 
 // What goes to standard error.
+#[tactic(auto, unfolding(crate::specs::Lines::error_text))]
 pub fn error_text(
     job: Job,
     file: &[u8],

@@ -1,5 +1,5 @@
 -- The lowest position in one set and not in another, one position at a time; and containing, by it.
-use Rattle.std.specs.Prelude.{ℕ, suc, ◌+◌, ◌<◌, ◌≡◌, Bool, true, not, ◌&&◌, length}
+use Rattle.std.specs.Prelude.{ℕ, suc, ◌+◌, ◌<◌, ◌≡◌, Bool, true, not, ◌&&◌, length, Some, None, is_none}
 use Rattle.std.proofs.Math.Path.{sym, ap}
 use Rattle.std.proofs.Common.{subst, ◌∙◌, add-one, drop-cons}
 use Rattle.std.proofs.Math.Bool.{false}
@@ -11,18 +11,17 @@ use Rattle.meaning.specs.Meaning.{has}
 use Rattle.meaning.specs.Rules.{lowest, pick, contains}
 use Rattle.laws.specs.Basics.{not_both, not_true_is_false}
 use Rattle.laws.specs.Sets.{Lowest, lowest_is, contains_part, part_contains}
-use Rattle.branches.specs.declared.nodes.Place.{Place}
-use Rattle.branches.specs.declared.nodes.Place.TheVariants.{At, Nowhere}
+use Rattle.std.specs.declared.option.Option.{Option as Place}
 
--- the position that a place stands for
-abbrev pub place_of : Place → Option ℕ
-place_of (At q) = some q
-place_of Nowhere = none
+-- the position that was found, as the rules have it
+abbrev pub place_of : Place ℕ → Option ℕ
+place_of (Some q) = some q
+place_of None = none
 
 -- it is one of k
-abbrev pub PlaceIn : ℕ → Place → Type 0
-PlaceIn k (At q) = q < k
-PlaceIn k Nowhere = Unit {0}
+abbrev pub PlaceIn : ℕ → Place ℕ → Type 0
+PlaceIn k (Some q) = q < k
+PlaceIn k None = Unit {0}
 
 module _ (A K : Meaning.Marks) where
   -- no position before d is in A and not in K
@@ -60,3 +59,8 @@ module _ (X K : Meaning.Marks) where
   contains_not q e =
       let found : Lowest K X (some q) = subst (Lowest K X) e (lowest_is K X) in
       not_true_is_false (λ t. not_both (contains_part X K t q found.0) found.1)
+
+  -- so it does where the lowest one is none
+  pub contains_none : (found : Place ℕ) → place_of found ≡ lowest 0 K X → is_none found ≡ contains X K
+  contains_none None e = sym (contains_all (sym e))
+  contains_none (Some q) e = sym (contains_not q (sym e))

@@ -10,20 +10,27 @@ use Rattle.meaning.specs.Built as Built
 use Rattle.meaning.specs.Built.{constant, named, among, position, n_of, helpers, number, literal_if, edge, opposite}
 use Rattle.laws.specs.Basics.{bool_cases}
 use Rattle.lines.specs.declared.number.Number.{Number}
-use Rattle.lines.specs.Numbers.{Stands, worth}
+use Rattle.lines.specs.Numbers.{worth}
 use Rattle.sections.specs.declared.circuit.Circuit.{Circuit}
 use Rattle.sections.specs.Lists.{variables_of, variables_length, defines_is}
 use Rattle.sections.specs.Rows.{value_small, value_least}
 use Rattle.sections.specs.Whole.{Whole, circuit_at, inputs_are, latches_are, gates_are, latch_count}
 use Rattle.built.specs.declared.edge.Edge.{Edge}
+use Rattle.built.specs.declared.edge.Edge.TheVariants.{Constant, Named}
 
 -- what an edge of the code stands for
-unfoldable pub edge_of : Edge → Built.Edge
-edge_of e = cond (eqb e.variable 0) (constant e.negative) (named (literal_if e.negative e.variable))
+abbrev pub edge_of : Edge → Built.Edge
+edge_of (Constant b) = constant b
+edge_of (Named l) = named (literal_if l.negative l.variable)
 
--- the problem's variable for one of the circuit's; 0 for a constant
-unfoldable pub variable_of : Meant.Circuit → ℕ → ℕ
-variable_of c u = cond (eqb u 0) 0 (number c u)
+-- its variable; 0 for a constant
+abbrev pub variable_of : Edge → ℕ
+variable_of (Constant b) = 0
+variable_of (Named l) = l.variable
+
+abbrev pub is_named : Edge → Bool
+is_named (Constant b) = false
+is_named (Named l) = true
 
 -- a circuit that stands in its text, within the limits of a problem
 pub record Small (text : List ℕ) (c : Circuit) : Type 0 where
@@ -38,24 +45,9 @@ unfolding literal_if negation
 literal_not true v = refl
 literal_not false v = refl
 
-pub opposite_is : (e r : Edge) → r.negative ≡ not e.negative → r.variable ≡ e.variable → edge_of r ≡ opposite (edge_of e)
-unfolding edge_of opposite
-opposite_is e r sign same =
-    rw (sign, same) (go (eqb e.variable 0))
-  where
-    go : (b : Bool)
-        → cond b (constant (not e.negative)) (named (literal_if (not e.negative) e.variable))
-        ≡ opposite (cond b (constant e.negative) (named (literal_if e.negative e.variable)))
-    go true = refl
-    go false = ap named (literal_not e.negative e.variable)
-
-number_some : (c : Meant.Circuit) (u : ℕ) → number c u ≡ 0 → ⊥
-unfolding number
-number_some c u = go (among u (latch_variables c))
-  where
-    go : (b : Bool) → cond b (suc (position u (latch_variables c))) (n_of c + n_of c + suc (position u (helpers c))) ≡ 0 → ⊥
-    go true e = omega (arith, e)
-    go false e = omega (arith, e)
+pub opposite_named : (b s : Bool) (v : ℕ) → s ≡ not b → named (literal_if s v) ≡ opposite (named (literal_if b v))
+unfolding opposite
+opposite_named b s v is = ap (λ (t : Bool). named (literal_if t v)) is ∙ ap named (literal_not b v)
 
 parity : (l : ℕ) → not (eqb (l % 2) 0) ≡ eqb (l % 2) 1
 parity l = go (bool_cases (eqb (l % 2) 0))
@@ -65,21 +57,14 @@ parity l = go (bool_cases (eqb (l % 2) 0))
     go (inr t) = rw t (sym (eq-eqb (l % 2) 1 (omega (arith, eqb-false (l % 2) 0 t))))
 
 -- an edge made of the sign and the variable of a literal
-edge_is : (c : Meant.Circuit) (l : ℕ) (r : Edge) → r.negative ≡ not (eqb (l % 2) 0) → r.variable ≡ variable_of c (var l)
-    → edge_of r ≡ edge c l
-unfolding edge_of edge variable_of negated
-edge_is c l r sign same = rw (sign, same, parity l) (go (eqb (var l) 0))
-  where
-    go : (b : Bool)
-        → cond (eqb (cond b 0 (number c (var l))) 0) (constant (eqb (l % 2) 1))
-        (named (literal_if (eqb (l % 2) 1) (cond b 0 (number c (var l)))))
-        ≡ cond b (constant (eqb (l % 2) 1)) (named (literal_if (eqb (l % 2) 1) (number c (var l))))
-    go true = refl
-    go false = rw (ne_eqb (number c (var l)) 0 (number_some c (var l)))
+module _ (c : Meant.Circuit) (l w : ℕ) (is : w ≡ l) (sign : Bool) (sign_is : sign ≡ not (eqb (w % 2) 0)) where
+  pub edge_constant : eqb (var w) 0 ≡ true → constant sign ≡ edge c l
+  unfolding edge negated
+  edge_constant none = ap (λ (b : Bool). constant b) (sign_is ∙ parity w) ∙ sym (rw none) ∙ ap (edge c) is
 
-pub edge_read : (c : Meant.Circuit) (l w : ℕ) (r : Edge) → w ≡ l → r.negative ≡ not (eqb (w % 2) 0) → r.variable ≡ variable_of c (var w)
-    → edge_of r ≡ edge c l
-edge_read c l w r is sign same = edge_is c w r sign same ∙ ap (edge c) is
+  pub edge_named : eqb (var w) 0 ≡ false → (v : ℕ) → v ≡ number c (var w) → named (literal_if sign v) ≡ edge c l
+  unfolding edge negated
+  edge_named some v v_is = rw (v_is, sign_is, parity w) (sym (rw some)) ∙ ap (edge c) is
 
 -- ---- the number of a variable
 
@@ -96,33 +81,34 @@ position_append u (v ∷ us) vs = go (eqb u v) (any (eqb u) us) (position_append
     go false true e = ap suc e
     go false false e = omega (arith, e)
 
-var_zero : (l : ℕ) → l < 2 → eqb (var l) 0 ≡ true
+pub var_zero : (l : ℕ) → l < 2 → eqb (var l) 0 ≡ true
 unfolding var
 var_zero l h = eq-eqb (l / 2) 0 (omega arith)
 
-var_some : (l : ℕ) → 2 ≤ l → eqb (var l) 0 ≡ false
+pub var_some : (l : ℕ) → 2 ≤ l → eqb (var l) 0 ≡ false
 unfolding var
 var_some l h = ne_eqb (l / 2) 0 (λ e. omega (arith, e))
 
-module _ (text : List ℕ) (c : Circuit) (x : Number) (h : Stands text x) where
+module _ (text : List ℕ) (c : Circuit) (x : Number) where
   abbrev u : ℕ
-  u = var (worth text x)
+  u = var (worth x)
 
   abbrev Is : ℕ → Type 0
-  Is r = r ≡ variable_of (circuit_at text c) (var (worth text x))
+  Is r = r ≡ number (circuit_at text c) (var (worth x))
 
-  pub variable_constant : x.value < 2 → Is 0
-  unfolding variable_of
-  variable_constant less = sym (rw (var_zero (worth text x) (value_small text x h less)))
+  pub is_constant : x.value < 2 → eqb u 0 ≡ true
+  is_constant less = var_zero (worth x) (value_small x less)
 
-  module _ (some : 2 ≤ x.value) (latch : ℕ) (latch_is : latch ≡ position u (variables_of text c.latches)) where
-    by_kind : variable_of (circuit_at text c) u
+  pub no_constant : 2 ≤ x.value → eqb u 0 ≡ false
+  no_constant some = var_some (worth x) (value_least x some)
+
+  module _ (latch : ℕ) (latch_is : latch ≡ position u (variables_of text c.latches)) where
+    by_kind : number (circuit_at text c) u
         ≡ cond (ltb latch c.latches.count) (suc latch)
         (c.latches.count + c.latches.count + suc (position u (variables_of text c.inputs ++ variables_of text c.gates)))
-    unfolding variable_of number n_of helpers
+    unfolding number n_of helpers
     by_kind =
         rw (
-          var_some (worth text x) (value_least text x h some),
           latches_are text c,
           inputs_are text c,
           gates_are text c,

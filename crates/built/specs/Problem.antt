@@ -1,6 +1,6 @@
 -- The parts of a built problem's file, one behind another.
 use Prim.Native.Nat.{ℕ, ◌+◌, ◌≤◌}
-use Rattle.std.proofs.Common.{arith, zero-add, sym, ◌∙◌}
+use Rattle.std.proofs.Common.{sym, ◌∙◌}
 use Rattle.std.specs.Prelude.{◌≡◌, refl}
 use Rattle.std.proofs.Math.Path.{ap, ap₂}
 use mathlib.Core.List.{List, [], ◌∷◌, ◌++◌, append_assoc}
@@ -13,7 +13,8 @@ use Rattle.meaning.specs.Built.{n_of, helpers, gates_clauses, latches_clauses, s
 use Rattle.meaning.specs.LemmaText.{read_lemma_text}
 use Rattle.meaning.specs.Filed.{two, record_bytes, clause_records, file_of}
 use Rattle.circuit_laws.specs.Numbers.{helper_count}
-use Rattle.records.specs.Put.{put}
+use Rattle.records.specs.declared.Records.{Records}
+use Rattle.records.specs.Puts.{Puts, HasRoom, Left, left_all, left_is, left_done, left_room, left_more}
 use Rattle.lemma_text.specs.Rest.{lemmas_of}
 use Rattle.sections.specs.declared.find.Lines.{Lines}
 use Rattle.sections.specs.declared.circuit.Circuit.{Circuit}
@@ -21,7 +22,7 @@ use Rattle.sections.specs.Whole.{circuit_at, latch_count, input_count, gate_coun
 use Rattle.clause_count.specs.Bad.{OneBad, literals_of, bad_lines, bad_is}
 use Rattle.clause_count.specs.Tally.{ones_append, constraints_are}
 use Rattle.built.specs.Sections.{records_append}
-use Rattle.built.specs.Wrote.{Wrote, Writing, writing_all, rest_as, part_room, part_left, rest_room, last_part, Three, three_all}
+use Rattle.built.specs.Cuts.{Three}
 
 -- the problem that is built from a circuit as it stands in its text, and from a lemma text over its latches
 abbrev pub problem_of : List ℕ → Circuit → List ℕ → Problem
@@ -77,28 +78,21 @@ module _ (text : List ℕ) (c : Circuit) where
 
 -- ---- the first record, and the last
 
-pub first_length : (n m : ℕ) → length (record_bytes 1 (two n ++ two m)) ≡ 8
+pub first_split : (n m : ℕ) → Three (record_bytes 1 (two n ++ two m)) (two 4 ++ two 1) (two n) (two m)
 unfolding record_bytes two
-first_length n m = refl
+first_split n m = record { is = refl }
 
-pub end_length : length (record_bytes 6 []) ≡ 4
-unfolding record_bytes two
-end_length = refl
+pub two_room : (n : ℕ) {out : Records} → HasRoom (two n) out → out.end + 2 ≤ length out.bytes.now
+unfolding two
+two_room n room = room.fits
 
-pub first_written : (at n m : ℕ) (out₀ out₁ out₂ out₃ : List ℕ) → at + length (record_bytes 1 (two n ++ two m)) ≤ length out₀
-    → out₁ ≡ put at (two 4 ++ two 1) out₀ → out₂ ≡ put (at + 4) (two n) out₁ → out₃ ≡ put (at + 6) (two m) out₂
-    → Wrote (record_bytes 1 (two n ++ two m)) at out₀ (at + 8) out₃
-unfolding record_bytes two
-first_written at n m out₀ out₁ out₂ out₃ room p q r =
-    let cut : Three (record_bytes 1 (two n ++ two m)) (two 4 ++ two 1) (two n) (two m) = record { is = refl } in
-    let head : Wrote (two 4 ++ two 1) at out₀ (at + 4) out₁ = record { end = refl; made = p } in
-    let left : Wrote (two n) (at + 4) out₁ (at + 6) out₂ = record { end = omega arith; made = q } in
-    let right : Wrote (two m) (at + 6) out₂ (at + 8) out₃ = record { end = omega arith; made = r } in
-    three_all cut at out₀ room head left right
+pub head_room : (len kind : ℕ) {out : Records} → HasRoom (two len ++ two kind) out → out.end + 4 ≤ length out.bytes.now
+unfolding two
+head_room len kind room = room.fits
 
-pub end_written : (at : ℕ) (out₀ out : List ℕ) → out ≡ put at (two 0 ++ two 6) out₀ → Wrote (record_bytes 6 []) at out₀ (at + 4) out
+pub end_is : two 0 ++ two 6 ≡ record_bytes 6 []
 unfolding record_bytes two
-end_written at out₀ out p = record { end = refl; made = p }
+end_is = refl
 
 -- ---- the whole file
 
@@ -132,54 +126,50 @@ module _ (text : List ℕ) (c : Circuit) (lemmas : List Clause) where
       helper_count (circuit_at text c) ∙ ap₂ ◌+◌ (input_count text c) (gate_count text c) in
       rw (n_is, m_is) (regroup first starts tr bad lemma end)
 
-  module _ (out₀ : List ℕ) (room : length (file_of (built (circuit_at text c) lemmas)) ≤ length out₀) where
-    abbrev Rest : List ℕ → ℕ → List ℕ → Type 0
-    Rest rest to out = Writing (file_of (built (circuit_at text c) lemmas)) 0 out₀ rest to out
+  module _ {r : Records} (room : HasRoom (file_of (built (circuit_at text c) lemmas)) r) where
+    abbrev Rest : List ℕ → Records → Type 0
+    Rest rest now = Left (file_of (built (circuit_at text c) lemmas)) r rest now
 
-    start : Rest (first ++ (starts ++ (tr ++ (bad ++ (lemma ++ end))))) 0 out₀
-    start = rest_as file_cut (writing_all (file_of (built (circuit_at text c) lemmas)) 0 out₀ (omega arith))
+    start : Rest (first ++ (starts ++ (tr ++ (bad ++ (lemma ++ end))))) r
+    start = left_is (left_all room) file_cut
 
-    pub first_room : 0 + length first ≤ length out₀
-    first_room = part_room first (starts ++ (tr ++ (bad ++ (lemma ++ end)))) start
+    pub first_room : HasRoom first r
+    first_room = left_room first (starts ++ (tr ++ (bad ++ (lemma ++ end)))) start
 
-    module _ {to₁ : ℕ} {out₁ : List ℕ} (w₁ : Wrote first 0 out₀ to₁ out₁) where
-      after_first : Rest (starts ++ (tr ++ (bad ++ (lemma ++ end)))) to₁ out₁
-      after_first = part_left first (starts ++ (tr ++ (bad ++ (lemma ++ end)))) start w₁
+    module _ {r₁ : Records} (w₁ : Puts first r r₁) where
+      after_first : Rest (starts ++ (tr ++ (bad ++ (lemma ++ end)))) r₁
+      after_first = left_more first (starts ++ (tr ++ (bad ++ (lemma ++ end)))) start w₁
 
-      pub starts_room : to₁ + length starts ≤ length out₁
-      starts_room = part_room starts (tr ++ (bad ++ (lemma ++ end))) after_first
+      pub starts_room : HasRoom starts r₁
+      starts_room = left_room starts (tr ++ (bad ++ (lemma ++ end))) after_first
 
-      module _ {to₂ : ℕ} {out₂ : List ℕ} (w₂ : Wrote starts to₁ out₁ to₂ out₂) where
-        after_starts : Rest (tr ++ (bad ++ (lemma ++ end))) to₂ out₂
-        after_starts = part_left starts (tr ++ (bad ++ (lemma ++ end))) after_first w₂
+      module _ {r₂ : Records} (w₂ : Puts starts r₁ r₂) where
+        after_starts : Rest (tr ++ (bad ++ (lemma ++ end))) r₂
+        after_starts = left_more starts (tr ++ (bad ++ (lemma ++ end))) after_first w₂
 
-        pub tr_room : to₂ + length tr ≤ length out₂
-        tr_room = part_room tr (bad ++ (lemma ++ end)) after_starts
+        pub tr_room : HasRoom tr r₂
+        tr_room = left_room tr (bad ++ (lemma ++ end)) after_starts
 
-        module _ {to₃ : ℕ} {out₃ : List ℕ} (w₃ : Wrote tr to₂ out₂ to₃ out₃) where
-          after_tr : Rest (bad ++ (lemma ++ end)) to₃ out₃
-          after_tr = part_left tr (bad ++ (lemma ++ end)) after_starts w₃
+        module _ {r₃ : Records} (w₃ : Puts tr r₂ r₃) where
+          after_tr : Rest (bad ++ (lemma ++ end)) r₃
+          after_tr = left_more tr (bad ++ (lemma ++ end)) after_starts w₃
 
-          pub bad_room : to₃ + length bad ≤ length out₃
-          bad_room = part_room bad (lemma ++ end) after_tr
+          pub bad_room : HasRoom bad r₃
+          bad_room = left_room bad (lemma ++ end) after_tr
 
-          module _ {to₄ : ℕ} {out₄ : List ℕ} (w₄ : Wrote bad to₃ out₃ to₄ out₄) where
-            after_bad : Rest (lemma ++ end) to₄ out₄
-            after_bad = part_left bad (lemma ++ end) after_tr w₄
+          module _ {r₄ : Records} (w₄ : Puts bad r₃ r₄) where
+            after_bad : Rest (lemma ++ end) r₄
+            after_bad = left_more bad (lemma ++ end) after_tr w₄
 
-            pub lemmas_room : to₄ + length lemma ≤ length out₄
-            lemmas_room = part_room lemma end after_bad
+            pub lemmas_room : HasRoom lemma r₄
+            lemmas_room = left_room lemma end after_bad
 
-            module _ {to₅ : ℕ} {out₅ : List ℕ} (w₅ : (to₅ ≡ to₄ + length lemma) × (out₅ ≡ put to₄ lemma out₄)) where
-              after_lemmas : Rest end to₅ out₅
-              after_lemmas = part_left lemma end after_bad (record { end = w₅.0; made = w₅.1 })
+            module _ {r₅ : Records} (w₅ : Puts lemma r₄ r₅) where
+              after_lemmas : Rest end r₅
+              after_lemmas = left_more lemma end after_bad w₅
 
-              pub end_room : to₅ + length end ≤ length out₅
-              end_room = rest_room after_lemmas
+              pub end_room : HasRoom end r₅
+              end_room = after_lemmas.room
 
-              pub file_written : {to₆ : ℕ} {out₆ : List ℕ} → Wrote end to₅ out₅ to₆ out₆
-                  → (to₆ ≡ length (file_of (built (circuit_at text c) lemmas)))
-                  × (out₆ ≡ put 0 (file_of (built (circuit_at text c) lemmas)) out₀)
-              file_written w₆ =
-                  let all = last_part after_lemmas w₆ in
-                  (all.end ∙ zero-add (length (file_of (built (circuit_at text c) lemmas))), all.made)
+              pub file_written : {r₆ : Records} → Puts end r₅ r₆ → Puts (file_of (built (circuit_at text c) lemmas)) r r₆
+              file_written w₆ = left_done after_lemmas w₆

@@ -1,9 +1,9 @@
 -- The clauses of latches, gates and literals that are to be 1, line by line.
-use Rattle.std.specs.Prelude.{ℕ, zero, suc, ◌+◌, ◌≤◌, ◌≡◌, true, false, get_or, eqb}
+use Rattle.std.specs.Prelude.{ℕ, zero, suc, ◌+◌, ◌≡◌, Bool, true, false, not, get_or, Some, None}
 use Rattle.std.proofs.Common.{arith, sym, ◌∙◌}
 use Rattle.std.proofs.Math.Path.{refl, ap}
 use mathlib.Core.List.{List, [], ◌∷◌, ◌++◌, map, append_assoc}
-use Rattle.meaning.specs.Clauses.{pos, neg, Clause}
+use Rattle.meaning.specs.Clauses.{pos, neg, negation, Clause}
 use Rattle.meaning.specs.Circuit as Meant
 use Rattle.meaning.specs.Circuit.{Start, at_0, at_1, at_either}
 use Rattle.meaning.specs.Built as Built
@@ -16,10 +16,8 @@ use Rattle.sections.specs.Lists.{first_lines, line_after, after_more}
 use Rattle.sections.specs.Whole.{circuit_at, sections_of, lines_of, latch_count}
 use Rattle.clause_count.specs.Start.{start_code, start_in}
 use Rattle.clause_count.specs.Bad.{literals_of}
-use Rattle.built.specs.Edges.{edge_of}
 use Rattle.built.specs.Turns.{parts}
-use Rattle.built.specs.Clause.{named_is}
-use Rattle.built.specs.Wrote.{Three, Two}
+use Rattle.built.specs.Cuts.{Three, Two}
 
 -- ---- the clauses of line i, counted from 0, by its numbers
 
@@ -133,11 +131,11 @@ line_here kind clauses text at p i is = ap (λ (q : ℕ). clause_records kind (c
 -- ---- one gate, and one latch
 
 -- the three clauses of a gate, with the negations that the code makes
-pub and_split : (kind : ℕ) (g a b g' a' b' : Built.Edge) → g' ≡ opposite g → a' ≡ opposite a → b' ≡ opposite b
+pub and_split : (kind : ℕ) (g a b : Built.Edge) {g' a' b' : Built.Edge} → g' ≡ opposite g → a' ≡ opposite a → b' ≡ opposite b
     → Three (clause_records kind (and_clauses g a b)) (clause_records kind (clause_if (a ∷ g' ∷ [])))
     (clause_records kind (clause_if (b ∷ g' ∷ []))) (clause_records kind (clause_if (g ∷ a' ∷ b' ∷ [])))
 unfolding and_clauses
-and_split kind g a b g' a' b' p q r =
+and_split kind g a b p q r =
     let first = clause_if (a ∷ opposite g ∷ []) in
     let second = clause_if (b ∷ opposite g ∷ []) in
     let third = clause_if (g ∷ opposite a ∷ opposite b ∷ []) in
@@ -154,15 +152,13 @@ unfolding gate_clauses
 gate_as kind c ns g a b p q r = rw (p, q, r)
 
 -- the two clauses of a latch, with the edges that the code makes
-pub same_split : (y : ℕ) (x x' : Built.Edge) → 1 ≤ y → x' ≡ opposite x
-    → Two (clause_records 3 (next_clauses y x))
-    (clause_records 3 (clause_if (edge_of (record { negative = true; variable = y }) ∷ x ∷ [])))
-    (clause_records 3 (clause_if (edge_of (record { negative = false; variable = y }) ∷ x' ∷ [])))
-unfolding next_clauses literal_if
-same_split y x x' some is =
+pub same_split : (y : ℕ) (x : Built.Edge) {off on x' : Built.Edge} → off ≡ named (literal_if true y) → on ≡ opposite off → x' ≡ opposite x
+    → Two (clause_records 3 (next_clauses y x)) (clause_records 3 (clause_if (off ∷ x ∷ []))) (clause_records 3 (clause_if (on ∷ x' ∷ [])))
+unfolding next_clauses literal_if opposite negation
+same_split y x off_is on_is is =
     record {
       is =
-          rw (is, named_is (record { negative = true; variable = y }) some, named_is (record { negative = false; variable = y }) some)
+          rw (is, on_is, off_is)
           (records_append 3 (clause_if (named (neg y) ∷ x ∷ [])) (clause_if (named (pos y) ∷ opposite x ∷ [])));
     }
 
@@ -177,30 +173,28 @@ latch_as text c i l x is =
 -- ---- where a latch starts
 
 -- at either value: no clause
-pub start_none : (i s : ℕ) (ns : List ℕ) → s ≡ start_in ns → s ≡ 2 → clause_records 2 (start_line i ns) ≡ []
+pub start_none : (i : ℕ) (ns : List ℕ) → None ≡ start_in ns → clause_records 2 (start_line i ns) ≡ []
 unfolding start_in start_code start_clause clause_records
-start_none i s ns is two = go (start_of (get_or ns 2 0)) (sym is ∙ two)
+start_none i ns is = go (start_of (get_or ns 2 0)) is
   where
-    go : (t : Start) → start_code t ≡ 2 → clause_records 2 (start_clause (suc i) t) ≡ []
-    go at_0 e = absurd (omega (arith, e))
-    go at_1 e = absurd (omega (arith, e))
+    go : (t : Start) → None ≡ start_code t → clause_records 2 (start_clause (suc i) t) ≡ []
+    go at_0 e = cc
+    go at_1 e = cc
     go at_either e = refl
 
 -- at 0 or at 1: the clause of one edge, negative where it is 0
-pub start_some : (i s v : ℕ) (ns : List ℕ) → s ≡ start_in ns → (s ≡ 2 → ⊥) → v ≡ suc i
-    → clause_records 2 (clause_if (edge_of (record { negative = eqb s 0; variable = v }) ∷ [])) ≡ clause_records 2 (start_line i ns)
+pub start_some : (i v : ℕ) (b n : Bool) (ns : List ℕ) → Some b ≡ start_in ns → n ≡ not b → v ≡ suc i
+    → clause_records 2 (clause_if (named (literal_if n v) ∷ [])) ≡ clause_records 2 (start_line i ns)
 unfolding start_in start_code start_clause clause_if literal_if
-start_some i s v ns is other v_is =
-    ap (λ (k : ℕ). clause_records 2 (clause_if (edge_of (record { negative = eqb s 0; variable = k }) ∷ []))) v_is
-    ∙ ap (λ (k : ℕ). clause_records 2 (clause_if (edge_of (record { negative = eqb k 0; variable = suc i }) ∷ []))) is
-    ∙ go (start_of (get_or ns 2 0)) (λ e. other (is ∙ e))
+start_some i v b n ns is n_is v_is = rw (n_is, v_is) (go (start_of (get_or ns 2 0)) b is)
   where
-    go : (t : Start) → (start_code t ≡ 2 → ⊥)
-        → clause_records 2 (clause_if (edge_of (record { negative = eqb (start_code t) 0; variable = suc i }) ∷ []))
-        ≡ clause_records 2 (start_clause (suc i) t)
-    go at_0 o = rw (named_is (record { negative = true; variable = suc i }) (omega arith))
-    go at_1 o = rw (named_is (record { negative = false; variable = suc i }) (omega arith))
-    go at_either o = absurd (o refl)
+    go : (t : Start) (b : Bool) → Some b ≡ start_code t
+        → clause_records 2 (clause_if (named (literal_if (not b) (suc i)) ∷ [])) ≡ clause_records 2 (start_clause (suc i) t)
+    go at_0 false e = refl
+    go at_0 true e = cc
+    go at_1 true e = refl
+    go at_1 false e = cc
+    go at_either b e = cc
 
 -- ---- a literal that is to be 1
 

@@ -1,110 +1,54 @@
-// The clause of up to three edges, as a record: a constant false leaves it, a constant true drops it.
-ghost use Rattle.std.specs.Prelude.{◌≡◌, ◌+◌, ◌<◌, ◌≤◌, [], ◌∷◌, ◌++◌, length};
+// The clause of some edges, as a record: a constant false leaves it, a constant true drops it.
+ghost use Rattle.std.specs.Prelude.{◌≡◌, ◌<◌, ◌≤◌, length, map};
+ghost use Rattle.std.specs.List.{count_by, list_any};
 ghost use Rattle.meaning.specs.Built.{clause_if};
-ghost use Rattle.meaning.specs.Filed.{record_bytes, clause_records};
+ghost use Rattle.meaning.specs.Filed.{clause_records};
 ghost use Rattle.clause_count.specs.Lengths.{is_true};
-ghost use Rattle.built.specs.Edges.{edge_of};
+ghost use Rattle.built.specs.Edges.{edge_of, is_named};
 ghost use Rattle.built.specs.Clause.{edge_bytes};
-ghost use Rattle.built.specs.Wrote.{Wrote};
+ghost use Rattle.records.specs.Puts.{Puts, HasRoom};
 
 use crate::edge::Edge;
-use records::{put_head, put_literal};
+use records::Records;
 
-// It is constantly true.
-fn is_true(e: Edge) -> bool
-    ensures { result ≡ is_true (edge_of e) }
+// How many of them are literals.
+fn named(edges: &[Edge]) -> usize
+    ensures { result ≡ count_by is_named edges.now }
 {
-    if 0 < e.variable {
-        return false;
-    }
-    e.negative
+    edges.iter().filter(|e| e.is_named()).count()
 }
 
-// How many bytes its literal takes: none where it is a constant.
-fn size(e: Edge) -> usize
-    ensures { (result ≡ length (edge_bytes (edge_of e))) × (result ≤ 2) }
+// One of them is constantly true.
+fn has_true(edges: &[Edge]) -> bool
+    ensures { result ≡ list_any (λ e. is_true (edge_of e)) edges.now }
 {
-    if 0 < e.variable {
-        return 2;
-    }
-    0
+    edges.iter().any(|e| e.is_true())
 }
 
-// Writes its literal, if it has one.
-fn put_edge(out: &mut [u8], at: usize, e: Edge) -> usize
-    requires variable_bound { e.variable ≤ 32767 }
-    requires e_in_bounds { at + length (edge_bytes (edge_of e)) ≤ length out.old }
-    ensures { Wrote (edge_bytes (edge_of e)) at out.old result out.new }
+// Writes the literal of an edge, if it is one.
+fn put_edge(out: &mut Records<'_>, e: Edge)
+    requires { HasRoom (edge_bytes (edge_of e)) out.old }
+    ensures { Puts (edge_bytes (edge_of e)) out.old out.new }
 {
-    let variable = e.variable;
-    if variable == 0 {
-        return at;
+    match e {
+        Edge::Constant(_) => {}
+        Edge::Named(l) => out.put_literal(l.negative, l.variable),
     }
-    put_literal(out, at, e.negative, variable);
-    at + 2
 }
 
-// Writes a record of the literals of three edges.
-fn put_record(out: &mut [u8], at: usize, kind: usize, a: Edge, b: Edge, c: Edge) -> usize
+// Writes the clause of up to three edges, if there is one.
+// A kind is a number, and no enum: it is the one that the record has in the file, which `clause_records kind` of meaning fixes.
+pub fn put_clause(out: &mut Records<'_>, kind: usize, edges: &[Edge])
     requires kind_bound { kind < 65536 }
-    requires variable_bound { a.variable ≤ 32767 }
-    requires variable_bound_2 { b.variable ≤ 32767 }
-    requires variable_bound_3 { c.variable ≤ 32767 }
-    requires c_in_bounds { at + length (record_bytes kind (edge_bytes (edge_of a) ++ (edge_bytes (edge_of b) ++ edge_bytes (edge_of c)))) ≤ length out.old }
-    ensures { Wrote (record_bytes kind (edge_bytes (edge_of a) ++ (edge_bytes (edge_of b) ++ edge_bytes (edge_of c)))) at out.old result out.new }
+    requires edges_bound { length edges.now ≤ 3 }
+    requires edges_in_bounds { HasRoom (clause_records kind (clause_if (map edge_of edges.now))) out.old }
+    ensures { Puts (clause_records kind (clause_if (map edge_of edges.now))) out.old out.new }
 {
-    put_head(out, at, size(a) + size(b) + size(c), kind);
-    let to = put_edge(out, at + 4, a);
-    let on = put_edge(out, to, b);
-    put_edge(out, on, c)
-}
-
-// Writes the clause of three edges, if there is one.
-pub fn put_clause(out: &mut [u8], at: usize, kind: usize, a: Edge, b: Edge, c: Edge) -> usize
-    requires kind_bound { kind < 65536 }
-    requires variable_bound { a.variable ≤ 32767 }
-    requires variable_bound_2 { b.variable ≤ 32767 }
-    requires variable_bound_3 { c.variable ≤ 32767 }
-    requires c_in_bounds { at + length (clause_records kind (clause_if (edge_of a ∷ edge_of b ∷ edge_of c ∷ []))) ≤ length out.old }
-    ensures { Wrote (clause_records kind (clause_if (edge_of a ∷ edge_of b ∷ edge_of c ∷ []))) at out.old result out.new }
-{
-    if is_true(a) {
-        return at;
+    if has_true(edges) {
+        return;
     }
-    if is_true(b) {
-        return at;
+    out.put_head(2 * named(edges), kind);
+    for e in edges {
+        put_edge(out, *e);
     }
-    if is_true(c) {
-        return at;
-    }
-    put_record(out, at, kind, a, b, c)
-}
-
-// The clause of two edges.
-pub fn put_two_edges(out: &mut [u8], at: usize, kind: usize, a: Edge, b: Edge) -> usize
-    requires kind_bound { kind < 65536 }
-    requires variable_bound { a.variable ≤ 32767 }
-    requires variable_bound_2 { b.variable ≤ 32767 }
-    requires b_in_bounds { at + length (clause_records kind (clause_if (edge_of a ∷ edge_of b ∷ []))) ≤ length out.old }
-    ensures { Wrote (clause_records kind (clause_if (edge_of a ∷ edge_of b ∷ []))) at out.old result out.new }
-{
-    let none = Edge {
-        negative: false,
-        variable: 0,
-    };
-    put_clause(out, at, kind, a, b, none)
-}
-
-// The clause of one edge.
-pub fn put_one_edge(out: &mut [u8], at: usize, kind: usize, a: Edge) -> usize
-    requires kind_bound { kind < 65536 }
-    requires variable_bound { a.variable ≤ 32767 }
-    requires a_in_bounds { at + length (clause_records kind (clause_if (edge_of a ∷ []))) ≤ length out.old }
-    ensures { Wrote (clause_records kind (clause_if (edge_of a ∷ []))) at out.old result out.new }
-{
-    let none = Edge {
-        negative: false,
-        variable: 0,
-    };
-    put_two_edges(out, at, kind, a, none)
 }

@@ -1,5 +1,5 @@
 // The clauses of the latches: each starts where its line says, and takes the value of its next literal.
-ghost use Rattle.std.specs.Prelude.{◌+◌, ◌<◌, ◌≤◌, length};
+ghost use Rattle.std.specs.Prelude.{◌<◌, ◌≤◌};
 ghost use Rattle.meaning.specs.Built.{next_clauses, latches_clauses, start_clauses};
 ghost use Rattle.meaning.specs.CircuitText.{numbers_at};
 ghost use Rattle.meaning.specs.Filed.{clause_records};
@@ -7,100 +7,86 @@ ghost use Rattle.sections.specs.Whole.{circuit_at};
 ghost use Rattle.clause_count.specs.Rows.{RowAt};
 ghost use Rattle.built.specs.Edges.{edge_of, Small};
 ghost use Rattle.built.specs.Sections.{latch_line, start_line};
-ghost use Rattle.built.specs.Wrote.{Wrote};
+ghost use Rattle.records.specs.Puts.{Puts, HasRoom};
 
-use crate::clause::{put_one_edge, put_two_edges};
-use crate::edge::{Edge, edge_at, opposite};
+use crate::clause::put_clause;
+use crate::edge::{Edge, edge_at};
+use crate::literal::Literal;
+use crate::walk::put_lines;
 use clause_count::start::start_at;
-use lines::line::next_line;
+use records::Records;
 use sections::circuit::Circuit;
 
 // The clause of where latch i, counted from 0, starts: it is 0, or it is 1; none where it starts at either value.
-fn put_start(text: &[u8], line: usize, i: usize, out: &mut [u8], at: usize) -> usize
+fn put_start(text: &[u8], line: usize, i: usize, out: &mut Records<'_>)
     requires row_at { RowAt text.now 2 line }
     requires i_bound { i < 96 }
-    requires line_in_bounds { at + length (clause_records 2 (start_line i (numbers_at text.now line))) ≤ length out.old }
-    ensures { Wrote (clause_records 2 (start_line i (numbers_at text.now line))) at out.old result out.new }
+    requires line_in_bounds { HasRoom (clause_records 2 (start_line i (numbers_at text.now line))) out.old }
+    ensures { Puts (clause_records 2 (start_line i (numbers_at text.now line))) out.old out.new }
 {
-    let start = start_at(text, line);
-    if start == 2 {
-        return at;
-    }
-    let e = Edge {
-        negative: start == 0,
-        variable: i + 1,
+    let Some(start) = start_at(text, line) else {
+        return;
     };
-    put_one_edge(out, at, 2, e)
+    let e = Edge::Named(Literal {
+        negative: !start,
+        variable: i + 1,
+    });
+    put_clause(out, 2, &[e]);
 }
 
 // The clauses of where all latches start, by line order.
-pub fn put_starts(text: &[u8], c: Circuit, out: &mut [u8], at: usize) -> usize
+pub fn put_starts(text: &[u8], c: Circuit, out: &mut Records<'_>)
     requires small { Small text.now c }
-    requires c_in_bounds { at + length (clause_records 2 (start_clauses 1 (circuit_at text.now c).latches)) ≤ length out.old }
-    ensures { Wrote (clause_records 2 (start_clauses 1 (circuit_at text.now c).latches)) at out.old result out.new }
+    requires c_in_bounds { HasRoom (clause_records 2 (start_clauses 1 (circuit_at text.now c).latches)) out.old }
+    ensures { Puts (clause_records 2 (start_clauses 1 (circuit_at text.now c).latches)) out.old out.new }
 {
-    let latches = c.latches;
-    let count = latches.count;
-    let mut line = latches.at;
-    let mut to = at;
-    let mut i: usize = 0;
-    while i < count {
-        to = put_start(text, line, i, out, to);
-        line = next_line(text, line);
-        i += 1;
-    }
-    to
+    put_lines(
+        text,
+        c.latches,
+        out,
+        |line, i, out| put_start(text, line, i, out),
+    );
 }
 
 // The two clauses that make variable y what x is.
-fn put_same(out: &mut [u8], at: usize, y: usize, x: Edge) -> usize
+fn put_same(out: &mut Records<'_>, y: usize, x: Edge)
     requires le_y { 1 ≤ y }
     requires y_bound { y ≤ 32767 }
-    requires variable_bound { x.variable ≤ 32767 }
-    requires x_in_bounds { at + length (clause_records 3 (next_clauses y (edge_of x))) ≤ length out.old }
-    ensures { Wrote (clause_records 3 (next_clauses y (edge_of x))) at out.old result out.new }
+    requires x_in_bounds { HasRoom (clause_records 3 (next_clauses y (edge_of x))) out.old }
+    ensures { Puts (clause_records 3 (next_clauses y (edge_of x))) out.old out.new }
 {
-    let not_x = opposite(x);
-    let off = Edge {
+    let off = Edge::Named(Literal {
         negative: true,
         variable: y,
-    };
-    let on = Edge {
-        negative: false,
-        variable: y,
-    };
-    let to = put_two_edges(out, at, 3, off, x);
-    put_two_edges(out, to, 3, on, not_x)
+    });
+    let on = off.opposite();
+    let not_x = x.opposite();
+    put_clause(out, 3, &[off, x]);
+    put_clause(out, 3, &[on, not_x]);
 }
 
 // The clauses of latch i, counted from 0, on a line.
-fn put_latch(text: &[u8], c: Circuit, line: usize, i: usize, out: &mut [u8], at: usize) -> usize
+fn put_latch(text: &[u8], c: Circuit, line: usize, i: usize, out: &mut Records<'_>)
     requires small { Small text.now c }
     requires row_at { RowAt text.now 2 line }
     requires i_bound { i < 96 }
-    requires line_in_bounds { at + length (clause_records 3 (latch_line (circuit_at text.now c) i (numbers_at text.now line))) ≤ length out.old }
-    ensures { Wrote (clause_records 3 (latch_line (circuit_at text.now c) i (numbers_at text.now line))) at out.old result out.new }
+    requires line_in_bounds { HasRoom (clause_records 3 (latch_line (circuit_at text.now c) i (numbers_at text.now line))) out.old }
+    ensures { Puts (clause_records 3 (latch_line (circuit_at text.now c) i (numbers_at text.now line))) out.old out.new }
 {
     let x = edge_at(text, c, line, 1);
-    let latches = c.latches;
-    put_same(out, at, latches.count + i + 1, x)
+    put_same(out, c.latches.count + i + 1, x);
 }
 
 // The clauses of all latches, by line order.
-pub fn put_latches(text: &[u8], c: Circuit, out: &mut [u8], at: usize) -> usize
+pub fn put_latches(text: &[u8], c: Circuit, out: &mut Records<'_>)
     requires small { Small text.now c }
-    requires c_in_bounds { at + length (clause_records 3 (latches_clauses (circuit_at text.now c) 1 (circuit_at text.now c).latches)) ≤ length out.old }
-    ensures { Wrote (clause_records 3 (latches_clauses (circuit_at text.now c) 1 (circuit_at text.now c).latches)) at out.old result out.new }
+    requires c_in_bounds { HasRoom (clause_records 3 (latches_clauses (circuit_at text.now c) 1 (circuit_at text.now c).latches)) out.old }
+    ensures { Puts (clause_records 3 (latches_clauses (circuit_at text.now c) 1 (circuit_at text.now c).latches)) out.old out.new }
 {
-    let latches = c.latches;
-    let count = latches.count;
-    let mut line = latches.at;
-    let mut to = at;
-    let mut i: usize = 0;
-    while i < count {
-        to = put_latch(text, c, line, i, out, to);
-        line = next_line(text, line);
-        i += 1;
-    }
-    to
+    put_lines(
+        text,
+        c.latches,
+        out,
+        |line, i, out| put_latch(text, c, line, i, out),
+    );
 }

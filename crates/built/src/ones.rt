@@ -1,5 +1,5 @@
 // The clauses of literals that are to be 1: constraints, and the bad literal.
-ghost use Rattle.std.specs.Prelude.{◌+◌, ◌<◌, ◌≤◌, length};
+ghost use Rattle.std.specs.Prelude.{◌<◌, ◌≤◌};
 ghost use Rattle.meaning.specs.Built.{one_clauses};
 ghost use Rattle.meaning.specs.CircuitText.{numbers_at};
 ghost use Rattle.meaning.specs.Filed.{clause_records};
@@ -8,42 +8,39 @@ ghost use Rattle.clause_count.specs.Rows.{RowAt};
 ghost use Rattle.clause_count.specs.Bad.{literals_of};
 ghost use Rattle.built.specs.Edges.{Small};
 ghost use Rattle.built.specs.Sections.{one_line};
-ghost use Rattle.built.specs.Wrote.{Wrote};
+ghost use Rattle.records.specs.Puts.{Puts, HasRoom};
 
-use crate::clause::put_one_edge;
+use crate::clause::put_clause;
 use crate::edge::edge_at;
-use lines::line::next_line;
+use crate::walk::put_lines;
+use records::Records;
 use sections::circuit::Circuit;
 use sections::find::Lines;
 
 // The clause of the literal on a line.
-fn put_one(text: &[u8], c: Circuit, line: usize, out: &mut [u8], at: usize, kind: usize) -> usize
+fn put_one(text: &[u8], c: Circuit, line: usize, out: &mut Records<'_>, kind: usize)
     requires small { Small text.now c }
     requires row_at { RowAt text.now 1 line }
     requires kind_bound { kind < 65536 }
-    requires line_in_bounds { at + length (clause_records kind (one_line (circuit_at text.now c) 0 (numbers_at text.now line))) ≤ length out.old }
-    ensures { Wrote (clause_records kind (one_line (circuit_at text.now c) 0 (numbers_at text.now line))) at out.old result out.new }
+    requires line_in_bounds { HasRoom (clause_records kind (one_line (circuit_at text.now c) 0 (numbers_at text.now line))) out.old }
+    ensures { Puts (clause_records kind (one_line (circuit_at text.now c) 0 (numbers_at text.now line))) out.old out.new }
 {
     let e = edge_at(text, c, line, 0);
-    put_one_edge(out, at, kind, e)
+    put_clause(out, kind, &[e]);
 }
 
 // The clauses of the literals on the lines of a section, as records of a kind.
-pub fn put_ones(text: &[u8], c: Circuit, s: Lines, out: &mut [u8], at: usize, kind: usize) -> usize
+pub fn put_ones(text: &[u8], c: Circuit, s: Lines, out: &mut Records<'_>, kind: usize)
     requires small { Small text.now c }
     requires rows_at { RowsAt text.now 1 s }
     requires kind_bound { kind < 65536 }
-    requires s_in_bounds { at + length (clause_records kind (one_clauses (circuit_at text.now c) (literals_of text.now s))) ≤ length out.old }
-    ensures { Wrote (clause_records kind (one_clauses (circuit_at text.now c) (literals_of text.now s))) at out.old result out.new }
+    requires s_in_bounds { HasRoom (clause_records kind (one_clauses (circuit_at text.now c) (literals_of text.now s))) out.old }
+    ensures { Puts (clause_records kind (one_clauses (circuit_at text.now c) (literals_of text.now s))) out.old out.new }
 {
-    let count = s.count;
-    let mut line = s.at;
-    let mut to = at;
-    let mut i: usize = 0;
-    while i < count {
-        to = put_one(text, c, line, out, to, kind);
-        line = next_line(text, line);
-        i += 1;
-    }
-    to
+    put_lines(
+        text,
+        s,
+        out,
+        |line, _, out| put_one(text, c, line, out, kind),
+    );
 }

@@ -1,7 +1,8 @@
 -- The header as the code finds it: 'aag', a space, and a line of five to nine numbers from there on.
-use Prim.Native.Nat.{ℕ, zero, suc, ◌+◌, ◌≤◌, ◌<◌}
+use Prim.Native.Nat.{ℕ, suc, ◌+◌, ◌≤◌, ◌<◌}
 use Rattle.std.proofs.Common.{arith, subst, ◌∙◌, inl, inr, true≢false}
-use Rattle.std.specs.Prelude.{◌≡◌, ◌⊎◌, Bool, not, ◌&&◌, cond, length, get_or, drop}
+use Rattle.std.specs.List.{starts_with}
+use Rattle.std.specs.Prelude.{◌≡◌, ◌⊎◌, Bool, not, ◌&&◌, length, get_or, drop, Option, None, is_some, MatchOption}
 use Rattle.std.proofs.Math.Path.{refl, sym, ap}
 use Rattle.std.proofs.Math.Bool.{true, false}
 use mathlib.Core.List.{List, [], ◌∷◌, ◌++◌, map}
@@ -16,12 +17,14 @@ use Rattle.meaning.specs.CircuitText
 use Rattle.meaning.specs.CircuitText.{aag, same_bytes, number_in, header_of, header_right, numbers_at}
 use Rattle.laws.specs.Basics.{bool_cases, and_left, and_right, and_both, not_true_is_false}
 use Rattle.lines.specs.declared.number.Number.{Number}
-use Rattle.lines.specs.Numbers.{worth, Stands}
-use Rattle.lines.specs.Past.{line_past, line_byte, ended_byte, next_byte, first_word}
+use Rattle.lines.specs.Numbers.{worth}
+use Rattle.lines.specs.Past.{line_past, line_byte, first_word}
+use Rattle.std.specs.declared.cmp.Ordering.{Ordering}
+use Rattle.std.specs.Ordering.{is_gt}
 use Rattle.lines.specs.Order.{order, order_cases, order_less, order_same, order_more}
-use Rattle.lines.specs.Literals.{nothing_stands, nothing_worth}
+use Rattle.lines.specs.Literals.{nothing_worth}
 use Rattle.sections.specs.Split.{numbers_count, numbers_all}
-use Rattle.sections.specs.LineOf.{past_zero, past_some, get_d_past}
+use Rattle.sections.specs.LineOf.{past_none, past_some, get_d_past}
 use Rattle.circuit_text.specs.declared.header.Header.{Header}
 
 -- the text starts with 'aag' and a space
@@ -29,23 +32,49 @@ unfoldable pub starts : List ℕ → Bool
 starts text =
     leb 4 (length text) && (eqb (get_or text 0 0) 97 && (eqb (get_or text 1 0) 97 && (eqb (get_or text 2 0) 103 && eqb (get_or text 3 0) 32)))
 
+and_false : (b : Bool) → (b && false) ≡ false
+and_false true = refl
+and_false false = refl
+
+and_true : (b : Bool) → (b && true) ≡ b
+and_true true = refl
+and_true false = refl
+
+same_byte : (a b : ℕ) → eqb a b ≡ eqb b a
+same_byte a b = go (bool_cases (eqb a b))
+  where
+    go : (eqb a b ≡ true) ⊎ (eqb a b ≡ false) → eqb a b ≡ eqb b a
+    go (inl t) = t ∙ sym (eq-eqb b a (sym (eqb-true a b t)))
+    go (inr t) = t ∙ sym (ne_eqb b a (λ e. eqb-false a b t (sym e)))
+
+-- it is what the library's test of a prefix says
+pub starts_is : (text : List ℕ) → starts_with eqb text (97 ∷ 97 ∷ 103 ∷ 32 ∷ []) ≡ starts text
+unfolding starts
+starts_is [] = refl
+starts_is (a ∷ []) = and_false (eqb 97 a)
+starts_is (a ∷ b ∷ []) = rw (and_false (eqb 97 b)) (and_false (eqb 97 a))
+starts_is (a ∷ b ∷ c ∷ []) = rw (and_false (eqb 103 c), and_false (eqb 97 b)) (and_false (eqb 97 a))
+starts_is (a ∷ b ∷ c ∷ d ∷ text) =
+    rw (and_true (eqb 32 d), same_byte 97 a, same_byte 97 b, same_byte 103 c, same_byte 32 d)
+    (sym (rw (le-leb 4 (suc (suc (suc (suc (length text))))) (omega arith))))
+
 -- the definition's test of the first line
 unfoldable pub header_test : List ℕ → Bool
 header_test text = ended text 0 && header_right (line_at text 0)
 
 -- the numbers of a header where they stand, as the definition has them
-unfoldable pub header_at : List ℕ → Header → CircuitText.Header
-header_at text h =
+unfoldable pub header_at : Header → CircuitText.Header
+header_at h =
     record {
-      m = worth text h.m;
-      i = worth text h.i;
-      l = worth text h.l;
-      o = worth text h.o;
-      a = worth text h.a;
-      b = worth text h.b;
-      c = worth text h.c;
-      j = worth text h.j;
-      f = worth text h.f;
+      m = worth h.m;
+      i = worth h.i;
+      l = worth h.l;
+      o = worth h.o;
+      a = worth h.a;
+      b = worth h.b;
+      c = worth h.c;
+      j = worth h.j;
+      f = worth h.f;
       newer = h.newer;
     }
 
@@ -53,20 +82,16 @@ header_at text h =
 pub record Parts (text : List ℕ) (h : Header) : Type 0 where
   pub next_is : h.next ≡ next_line text 0
   pub next_in : h.next ≤ length text
-  pub m : Stands text h.m
-  pub i : Stands text h.i
-  pub l : Stands text h.l
-  pub o : Stands text h.o
-  pub a : Stands text h.a
-  pub b : Stands text h.b
-  pub c : Stands text h.c
-  pub j : Stands text h.j
-  pub f : Stands text h.f
-  pub worths : header_at text h ≡ header_of (line_at text 0)
+  pub worths : header_at h ≡ header_of (line_at text 0)
 
-pub record HeaderIs (text : List ℕ) (h : Header) : Type 0 where
-  pub right : h.right ≡ header_test text
-  pub parts : h.right ≡ true → Parts text h
+-- a header that is right
+pub record HeaderRight (text : List ℕ) (h : Header) : Type 0 where
+  pub right : header_test text ≡ true
+  pub parts : Parts text h
+
+-- the header, or none where it is not right
+abbrev pub HeaderIs : List ℕ → Option Header → Type 0
+HeaderIs text r = MatchOption r (header_test text ≡ false) (HeaderRight text)
 
 -- ---- a line of two words or more
 
@@ -263,48 +288,41 @@ module _ (text : List ℕ) (start : starts text ≡ true) where
 
 -- ---- how many numbers, and each of them
 
--- so many numbers follow 'aag' and its space; 0 where there are not five to nine
-pub record WidthIs (text : List ℕ) (r : ℕ) : Type 0 where
-  pub none : r ≡ 0 → (ended text 4 && (between 5 9 (length (words (line_at text 4))) && all is_number (words (line_at text 4)))) ≡ false
-  pub closed : (r ≡ 0 → ⊥) → ended text 4 ≡ true
-  pub numbers : (r ≡ 0 → ⊥) → of_numbers r (line_at text 4) ≡ true
-  pub few : r ≤ 9
-  pub least : (r ≡ 0 → ⊥) → 5 ≤ r
+-- so many numbers follow 'aag' and its space
+pub record NumbersFollow (text : List ℕ) (width : ℕ) : Type 0 where
+  pub closed : ended text 4 ≡ true
+  pub numbers : of_numbers width (line_at text 4) ≡ true
+  pub few : width ≤ 9
+  pub least : 5 ≤ width
+
+-- how many do; none where there are not five to nine
+abbrev pub WidthIs : List ℕ → Option ℕ → Type 0
+WidthIs text r =
+    MatchOption r ((ended text 4 && (between 5 9 (length (words (line_at text 4))) && all is_number (words (line_at text 4)))) ≡ false) (NumbersFollow text)
 
 -- they are not so many, for each number from 5 on that was tried
 abbrev pub Tried : List ℕ → ℕ → Type 0
 Tried text width = (k : ℕ) → 5 ≤ k → k < width → (ended text 4 && of_numbers k (line_at text 4)) ≡ false
 
-pub tried_more : (text : List ℕ) (width r : ℕ) → r ≡ line_past width text 4 → r ≡ 0 → Tried text width → Tried text (width + 1)
-tried_more text width r is z tried k low high = go (bool_cases (ltb k width))
+pub tried_more : (text : List ℕ) (width : ℕ) (r : Option ℕ) → r ≡ line_past width text 4 → (b : Bool) → b ≡ is_some r → b ≡ false → Tried text width
+    → Tried text (width + 1)
+tried_more text width r is b told z tried k low high = go (bool_cases (ltb k width))
   where
     go : (ltb k width ≡ true) ⊎ (ltb k width ≡ false) → (ended text 4 && of_numbers k (line_at text 4)) ≡ false
     go (inl t) = tried k low (ltb-true k width t)
     go (inr t) =
         let same : k ≡ width = omega (arith, ltb-false k width t) in
-        subst (λ (w : ℕ). (ended text 4 && of_numbers w (line_at text 4)) ≡ false) (sym same) (past_zero width text 4 r is z)
+        subst (λ (w : ℕ). (ended text 4 && of_numbers w (line_at text 4)) ≡ false) (sym same) (past_none width text 4 r is b told z)
 
-pub width_found : (text : List ℕ) (width r : ℕ) → r ≡ line_past width text 4 → (r ≡ 0 → ⊥) → 5 ≤ width → width < 10 → WidthIs text width
-width_found text width r is some low high =
-    let facts = past_some width text 4 r is some in
-    record {
-      none = λ z. absurd (omega (arith, z));
-      closed = λ more. facts.0;
-      numbers = λ more. facts.1;
-      few = omega arith;
-      least = λ more. low;
-    }
+pub width_found : (text : List ℕ) (width : ℕ) (r : Option ℕ) → r ≡ line_past width text 4 → (b : Bool) → b ≡ is_some r → b ≡ true → 5 ≤ width → width < 10
+    → NumbersFollow text width
+width_found text width r is b told some low high =
+    let facts = past_some width text 4 r is b told some in
+    record { closed = facts.0; numbers = facts.1; few = omega arith; least = low }
 
-pub width_none : (text : List ℕ) (width : ℕ) → (width < 10 → ⊥) → Tried text width → WidthIs text 0
+pub width_none : (text : List ℕ) (width : ℕ) → (width < 10 → ⊥) → Tried text width → WidthIs text None
 unfolding of_numbers between
-width_none text width past tried =
-    record {
-      none = λ z. go (bool_cases (leb 5 count)) (bool_cases (leb count 9));
-      closed = λ some. absurd (some refl);
-      numbers = λ some. absurd (some refl);
-      few = omega arith;
-      least = λ some. absurd (some refl);
-    }
+width_none text width past tried = go (bool_cases (leb 5 count)) (bool_cases (leb count 9))
   where
     count : ℕ
     count = length (words (line_at text 4))
@@ -325,48 +343,42 @@ width_none text width past tried =
 
 -- x is number j after 'aag' and its space
 pub record NumberIs (text : List ℕ) (j : ℕ) (x : Number) : Type 0 where
-  pub stands : Stands text x
-  pub is : worth text x ≡ get_or (numbers_at text 4) j 0
+  pub is : worth x ≡ get_or (numbers_at text 4) j 0
 
-pub number_left_out : (text : List ℕ) (width j : ℕ) → 4 ≤ length text → of_numbers width (line_at text 4) ≡ true → width ≤ j
-    → NumberIs text j (record { start = 4; end = 4; value = 0 })
+pub number_left_out : (text : List ℕ) (width j : ℕ) → of_numbers width (line_at text 4) ≡ true → width ≤ j
+    → (x : Number) → x.digits.now ≡ [] → NumberIs text j x
 unfolding numbers_at
-number_left_out text width j four n past =
+number_left_out text width j n past x none =
     record {
-      stands = nothing_stands text 4 four;
       is =
-          nothing_worth text 4
+          nothing_worth x none
           ∙ sym
           (get_d_past (map decimal (words (line_at text 4))) j
           (omega (arith, numbers_count width (line_at text 4) n, length-map (words (line_at text 4)) decimal)));
     }
 
 -- the order of a sum and a number says whether it is at most that
-pub at_most : (s m r : ℕ) → r ≡ order (s + 0) m → not (eqb r 2) ≡ leb s m
+pub at_most : (s m : ℕ) (r : Ordering) → r ≡ order (s + 0) m → not (is_gt r) ≡ leb s m
 at_most s m r is = go (order_cases (s + 0) m)
   where
-    go : (s + 0 < m) ⊎ ((s + 0 ≡ m) ⊎ (m < s + 0)) → not (eqb r 2) ≡ leb s m
-    go (inl h) = ap (λ (k : ℕ). not (eqb k 2)) (is ∙ order_less (s + 0) m h) ∙ sym (le-leb s m (omega arith))
-    go (inr (inl h)) = ap (λ (k : ℕ). not (eqb k 2)) (is ∙ order_same (s + 0) m h) ∙ sym (le-leb s m (omega (arith, h)))
-    go (inr (inr h)) = ap (λ (k : ℕ). not (eqb k 2)) (is ∙ order_more (s + 0) m h) ∙ sym (lt-leb s m (omega arith))
+    go : (s + 0 < m) ⊎ ((s + 0 ≡ m) ⊎ (m < s + 0)) → not (is_gt r) ≡ leb s m
+    go (inl h) = ap (λ (o : Ordering). not (is_gt o)) (is ∙ order_less (s + 0) m h) ∙ sym (le-leb s m (omega arith))
+    go (inr (inl h)) = ap (λ (o : Ordering). not (is_gt o)) (is ∙ order_same (s + 0) m h) ∙ sym (le-leb s m (omega (arith, h)))
+    go (inr (inr h)) = ap (λ (o : Ordering). not (is_gt o)) (is ∙ order_more (s + 0) m h) ∙ sym (lt-leb s m (omega arith))
 
 -- ---- the header put together
 
-pub header_wrong : (text : List ℕ) (h : Header) → h.right ≡ false → false ≡ header_test text → HeaderIs text h
-header_wrong text h no_right is =
-    record { right = no_right ∙ is; parts = λ e. absurd (true≢false (sym e ∙ no_right)) }
+module _ (text : List ℕ) (start : starts text ≡ true) where
+  pub not_numbers : (ended text 4 && (between 5 9 (length (words (line_at text 4))) && all is_number (words (line_at text 4)))) ≡ false
+      → header_test text ≡ false
+  not_numbers none = test_is text start ∙ rw none
 
-module _ (text : List ℕ) (start : starts text ≡ true) (width : ℕ) (is : WidthIs text width) where
-  pub not_numbers : width ≡ 0 → false ≡ header_test text
-  not_numbers e = sym (test_is text start ∙ rw (is.none e))
-
-  module _ (some : width ≡ 0 → ⊥) (m i l o a b c j f : Number) (em : NumberIs text 0 m) (ei : NumberIs text 1 i) (el : NumberIs text 2 l)
+  module _ (width : ℕ) (is : NumbersFollow text width) (m i l o a b c j f : Number) (em : NumberIs text 0 m) (ei : NumberIs text 1 i) (el : NumberIs text 2 l)
       (eo : NumberIs text 3 o) (ea : NumberIs text 4 a) (eb : NumberIs text 5 b) (ec : NumberIs text 6 c) (ej : NumberIs text 7 j)
-      (ef : NumberIs text 8 f) (next : ℕ) (right : Bool) where
+      (ef : NumberIs text 8 f) (next : ℕ) where
     abbrev made : Header
     made =
         record {
-          right = right;
           next = next;
           newer = ltb 5 width;
           m = m;
@@ -380,7 +392,7 @@ module _ (text : List ℕ) (start : starts text ≡ true) (width : ℕ) (is : Wi
           f = f;
         }
 
-    worths_are : header_at text made ≡ header_of (line_at text 0)
+    worths_are : header_at made ≡ header_of (line_at text 0)
     unfolding header_at header_of
     worths_are =
         let fm = em.is ∙ sym (number_is text start 0) in
@@ -392,42 +404,41 @@ module _ (text : List ℕ) (start : starts text ≡ true) (width : ℕ) (is : Wi
         let fc = ec.is ∙ sym (number_is text start 6) in
         let fj = ej.is ∙ sym (number_is text start 7) in
         let ff = ef.is ∙ sym (number_is text start 8) in
-        let fn = newer_is text start width (is.numbers some) in
+        let fn = newer_is text start width is.numbers in
         λ k. record { m = fm k; i = fi k; l = fl k; o = fo k; a = fa k; b = fb k; c = fc k; j = fj k; f = ff k; newer = fn k }
 
     five_to_nine : (between 5 9 (length (words (line_at text 4))) && all is_number (words (line_at text 4))) ≡ true
     unfolding between
     five_to_nine =
         let ws = words (line_at text 4) in
-        let count = numbers_count width (line_at text 4) (is.numbers some) in
+        let count = numbers_count width (line_at text 4) is.numbers in
         and_both (leb 5 (length ws) && leb (length ws) 9) (all is_number ws)
-        (and_both (leb 5 (length ws)) (leb (length ws) 9) (le-leb 5 (length ws) (omega (arith, count, is.least some)))
+        (and_both (leb 5 (length ws)) (leb (length ws) 9) (le-leb 5 (length ws) (omega (arith, count, is.least)))
         (le-leb (length ws) 9 (omega (arith, count, is.few))))
-        (numbers_all width (line_at text 4) (is.numbers some))
+        (numbers_all width (line_at text 4) is.numbers)
 
-    pub header_made : next ≡ next_line text 4 → next ≤ length text → (q : ℕ)
-        → q ≡ order (worth text i + worth text l + worth text a + 0) (worth text m) → right ≡ not (eqb q 2) → HeaderIs text made
+    -- the test is whether the sum is at most M
+    test_made : (q : Ordering) → q ≡ order (worth i + worth l + worth a + 0) (worth m) → header_test text ≡ not (is_gt q)
     unfolding header_at
-    header_made next_at inside q q_is right_is =
+    test_made q q_is =
+        sym
+        (at_most (worth i + worth l + worth a) (worth m) q q_is
+        ∙ ap (λ (h : CircuitText.Header). leb (h.i + h.l + h.a) h.m) worths_are
+        ∙ sym (test_is text start ∙ rw (is.closed, five_to_nine)))
+
+    pub header_over : (q : Ordering) → q ≡ order (worth i + worth l + worth a + 0) (worth m) → is_gt q ≡ true
+        → header_test text ≡ false
+    header_over q q_is over = test_made q q_is ∙ ap not over
+
+    pub header_made : next ≡ next_line text 4 → next ≤ length text → (q : Ordering)
+        → q ≡ order (worth i + worth l + worth a + 0) (worth m) → is_gt q ≡ false → HeaderRight text made
+    header_made next_at inside q q_is within =
         record {
-          right =
-              right_is
-              ∙ at_most (worth text i + worth text l + worth text a) (worth text m) q q_is
-              ∙ ap (λ (h : CircuitText.Header). leb (h.i + h.l + h.a) h.m) worths_are
-              ∙ sym (test_is text start ∙ rw (is.closed some, five_to_nine));
-          parts = λ e.
+          right = test_made q q_is ∙ ap not within;
+          parts =
               record {
                 next_is = next_at ∙ sym (next_is text start);
                 next_in = inside;
-                m = em.stands;
-                i = ei.stands;
-                l = el.stands;
-                o = eo.stands;
-                a = ea.stands;
-                b = eb.stands;
-                c = ec.stands;
-                j = ej.stands;
-                f = ef.stands;
                 worths = worths_are;
               };
         }

@@ -1,20 +1,18 @@
 -- The lines between latches and gates, put together stage by stage.
-use Rattle.std.specs.Prelude.{ℕ, ◌+◌, ◌≤◌, ◌<◌, ◌≡◌, refl, Bool, true, false, length}
-use Rattle.std.proofs.Common.{arith, sym, ap, subst, ◌∙◌}
-use mathlib.Core.List.{List, [], ◌∷◌, ◌++◌, append-nil}
+use Rattle.std.specs.Prelude.{ℕ, ◌≤◌, ◌<◌, ◌≡◌, refl, Bool, length, Result, Ok, Err}
+use Rattle.std.proofs.Common.{arith, ◌∙◌}
+use mathlib.Core.List.{List, [], ◌++◌}
 use Rattle.meaning.specs.CircuitText
 use Rattle.meaning.specs.CircuitText.{Section, Line, Text, section, used_form, count_form, defined_in, total, on_properties, wrong}
 use Rattle.lines.specs.declared.number.Number.{Number}
-use Rattle.lines.specs.Numbers.{worth, Stands, huge, capped}
+use Rattle.lines.specs.Numbers.{value_is, worth, huge, capped}
 use Rattle.sections.specs.declared.find.Lines.{Lines}
 use Rattle.sections.specs.declared.circuit.Properties.{Properties}
-use Rattle.sections.specs.declared.read.Ended.{Ended}
+use Rattle.lines.specs.declared.fault.Fault.{Fault}
 use Rattle.sections.specs.Lists.{first_lines, variables_of, Placed}
 use Rattle.sections.specs.Reading.{ended_as}
-use Rattle.sections.specs.Whole.{lines_of, properties_of, RowsAt, PropertiesAt}
+use Rattle.sections.specs.Whole.{lines_of, properties_of, PropertiesAt}
 use Rattle.circuit_text.specs.declared.header.Header.{Header}
-use Rattle.circuit_text.specs.declared.properties.Between.{Between}
-use Rattle.circuit_text.specs.declared.properties.Between.TheVariants
 use Rattle.circuit_text.specs.Header.{Parts, header_at}
 use Rattle.circuit_text.specs.Stages.{word_most, Stage, stage, stage_wrong, stage_on, after_justice, after_counts, after_constraints, after_bads, after_outputs, on_properties_is}
 
@@ -30,220 +28,213 @@ unfolding variables_of first_lines defined_in
 nothing_before text = refl
 
 -- a number that fits a word
-pub record Fits (text : List ℕ) (x : Number) : Type 0 where
-  pub is : worth text x ≡ x.value
+pub record Fits (x : Number) : Type 0 where
+  pub is : worth x ≡ x.value
   pub small : x.value < huge
 
 -- the numbers of a header that count the lines that are read
-pub record CountedBetween (text : List ℕ) (h : Header) : Type 0 where
-  pub o : Fits text h.o
-  pub b : Fits text h.b
-  pub c : Fits text h.c
-  pub j : Fits text h.j
-  pub f : Fits text h.f
+pub record CountedBetween (h : Header) : Type 0 where
+  pub o : Fits h.o
+  pub b : Fits h.b
+  pub c : Fits h.c
+  pub j : Fits h.j
+  pub f : Fits h.f
 
-pub record Counted (text : List ℕ) (h : Header) : Type 0 where
-  pub i : Fits text h.i
-  pub l : Fits text h.l
-  pub between : CountedBetween text h
+pub record Counted (h : Header) : Type 0 where
+  pub i : Fits h.i
+  pub l : Fits h.l
+  pub between : CountedBetween h
 
 -- all lines between latches and gates are read
 pub record Read (text : List ℕ) (h : Header) (judged : Bool) (at : ℕ) (p : Properties) (next : ℕ) : Type 0 where
-  pub is : (on : CircuitText.Properties → ℕ → Text) → on_properties judged (header_at text h) text at on ≡ on (properties_of text p) next
+  pub is : (on : CircuitText.Properties → ℕ → Text) → on_properties judged (header_at h) text at on ≡ on (properties_of text p) next
   pub rows : PropertiesAt text p
   pub inside : next ≤ length text
-  pub counted : CountedBetween text h
+  pub counted : CountedBetween h
 
-abbrev pub PropertiesRead : List ℕ → Header → Bool → ℕ → Between → Type 0
-PropertiesRead text h judged at (TheVariants.Fault place) =
-    (on : CircuitText.Properties → ℕ → Text) → on_properties judged (header_at text h) text at on ≡ wrong place
-PropertiesRead text h judged at (TheVariants.Lines p next) = Read text h judged at p next
+abbrev pub PropertiesRead : List ℕ → Header → Bool → ℕ → Result (Properties × ℕ) Fault → Type 0
+PropertiesRead text h judged at (Err e) =
+    (on : CircuitText.Properties → ℕ → Text) → on_properties judged (header_at h) text at on ≡ wrong e.at
+PropertiesRead text h judged at (Ok r) = Read text h judged at r.0 r.1
 
 -- ---- stage by stage
 
 module _ (text : List ℕ) (h : Header) (p : Parts text h) (judged : Bool) (short : length text ≤ word_most) (at : ℕ) (inside : at ≤ length text) where
   abbrev Used : ℕ → ℕ → Section
-  Used n place = section used_form judged (worth text h.m) text n [] place
+  Used n place = section used_form judged (worth h.m) text n [] place
 
   abbrev Wrong : ℕ → Type 0
-  Wrong place = (on : CircuitText.Properties → ℕ → Text) → on_properties judged (header_at text h) text at on ≡ wrong place
+  Wrong place = (on : CircuitText.Properties → ℕ → Text) → on_properties judged (header_at h) text at on ≡ wrong place
 
-  used_stage : (n v place : ℕ) (r : Ended) → v ≡ capped n → place ≤ length text → r ≡ ended_as (Used n place) → r.fault ≡ false
-      → Stage text (Used n place) 1 place n v r.at
+  used_stage : (n v place r : ℕ) → v ≡ capped n → place ≤ length text → Ok r ≡ ended_as (Used n place)
+      → Stage text (Used n place) 1 place n v r
   unfolding used_form
-  used_stage n v place r is in_text e f = stage used_form judged (worth text h.m) text [] place n v r is in_text (omega arith) short e f
+  used_stage n v place r is in_text e = stage used_form judged (worth h.m) text [] place n v r is in_text (omega arith) short e
 
-  module _ (r₁ : Ended) (e₁ : r₁ ≡ ended_as (Used (worth text h.o) at)) where
-    pub outputs_wrong : r₁.fault ≡ true → Wrong r₁.at
+  pub outputs_wrong : (x : Fault) → Err x ≡ ended_as (Used (worth h.o) at) → Wrong x.at
+  unfolding header_at
+  outputs_wrong x e on = on_properties_is judged (header_at h) text on at ∙ stage_wrong _ _ x e
+
+  module _ (r₁ : ℕ) (e₁ : Ok r₁ ≡ ended_as (Used (worth h.o) at)) where
+    abbrev outputs : Lines
+    outputs = record { at = at; count = h.o.value }
+
+    pub stage₁ : Stage text (Used (worth h.o) at) 1 at (worth h.o) h.o.value r₁
+    stage₁ = used_stage (worth h.o) h.o.value at r₁ (value_is h.o) inside e₁
+
+    on₁ : (on : CircuitText.Properties → ℕ → Text)
+        → on_properties judged (header_at h) text at on ≡ after_outputs judged (header_at h) text on (lines_of text outputs) r₁
     unfolding header_at
-    outputs_wrong f on = on_properties_is judged (header_at text h) text on at ∙ stage_wrong _ _ r₁ e₁ f
+    on₁ on =
+        on_properties_is judged (header_at h) text on at
+        ∙ stage_on _ _ _ (λ ls next. after_outputs judged (header_at h) text on ls next) stage₁.is
 
-    module _ (f₁ : r₁.fault ≡ false) where
-      abbrev outputs : Lines
-      outputs = record { at = at; count = h.o.value }
+    pub bads_wrong : (x : Fault) → Err x ≡ ended_as (Used (worth h.b) r₁) → Wrong x.at
+    unfolding header_at after_outputs
+    bads_wrong x e on = on₁ on ∙ stage_wrong _ _ x e
 
-      pub stage₁ : Stage text (Used (worth text h.o) at) 1 at (worth text h.o) h.o.value r₁.at
-      stage₁ = used_stage (worth text h.o) h.o.value at r₁ p.o.value inside e₁ f₁
+    module _ (r₂ : ℕ) (e₂ : Ok r₂ ≡ ended_as (Used (worth h.b) r₁)) where
+      abbrev bads : Lines
+      bads = record { at = r₁; count = h.b.value }
 
-      on₁ : (on : CircuitText.Properties → ℕ → Text)
-          → on_properties judged (header_at text h) text at on ≡ after_outputs judged (header_at text h) text on (lines_of text outputs) r₁.at
-      unfolding header_at
-      on₁ on =
-          on_properties_is judged (header_at text h) text on at
-          ∙ stage_on _ _ _ (λ ls next. after_outputs judged (header_at text h) text on ls next) stage₁.is
+      pub stage₂ : Stage text (Used (worth h.b) r₁) 1 r₁ (worth h.b) h.b.value r₂
+      stage₂ = used_stage (worth h.b) h.b.value r₁ r₂ (value_is h.b) stage₁.inside e₂
 
-      module _ (r₂ : Ended) (e₂ : r₂ ≡ ended_as (Used (worth text h.b) r₁.at)) where
-        pub bads_wrong : r₂.fault ≡ true → Wrong r₂.at
-        unfolding header_at after_outputs
-        bads_wrong f on = on₁ on ∙ stage_wrong _ _ r₂ e₂ f
+      on₂ : (on : CircuitText.Properties → ℕ → Text)
+          → on_properties judged (header_at h) text at on
+          ≡ after_bads judged (header_at h) text on (lines_of text outputs) (lines_of text bads) r₂
+      unfolding header_at after_outputs
+      on₂ on =
+          on₁ on
+          ∙ stage_on _ _ _ (λ ls next. after_bads judged (header_at h) text on (lines_of text outputs) ls next) stage₂.is
 
-        module _ (f₂ : r₂.fault ≡ false) where
-          abbrev bads : Lines
-          bads = record { at = r₁.at; count = h.b.value }
+      pub constraints_wrong : (x : Fault) → Err x ≡ ended_as (Used (worth h.c) r₂) → Wrong x.at
+      unfolding header_at after_bads
+      constraints_wrong x e on = on₂ on ∙ stage_wrong _ _ x e
 
-          pub stage₂ : Stage text (Used (worth text h.b) r₁.at) 1 r₁.at (worth text h.b) h.b.value r₂.at
-          stage₂ = used_stage (worth text h.b) h.b.value r₁.at r₂ p.b.value stage₁.inside e₂ f₂
+      module _ (r₃ : ℕ) (e₃ : Ok r₃ ≡ ended_as (Used (worth h.c) r₂)) where
+        abbrev constraints : Lines
+        constraints = record { at = r₂; count = h.c.value }
 
-          on₂ : (on : CircuitText.Properties → ℕ → Text)
-              → on_properties judged (header_at text h) text at on
-              ≡ after_bads judged (header_at text h) text on (lines_of text outputs) (lines_of text bads) r₂.at
-          unfolding header_at after_outputs
-          on₂ on =
-              on₁ on
-              ∙ stage_on _ _ _ (λ ls next. after_bads judged (header_at text h) text on (lines_of text outputs) ls next) stage₂.is
+        pub stage₃ : Stage text (Used (worth h.c) r₂) 1 r₂ (worth h.c) h.c.value r₃
+        stage₃ = used_stage (worth h.c) h.c.value r₂ r₃ (value_is h.c) stage₂.inside e₃
 
-          module _ (r₃ : Ended) (e₃ : r₃ ≡ ended_as (Used (worth text h.c) r₂.at)) where
-            pub constraints_wrong : r₃.fault ≡ true → Wrong r₃.at
-            unfolding header_at after_bads
-            constraints_wrong f on = on₂ on ∙ stage_wrong _ _ r₃ e₃ f
+        on₃ : (on : CircuitText.Properties → ℕ → Text)
+            → on_properties judged (header_at h) text at on
+            ≡ after_constraints judged (header_at h) text on (lines_of text outputs) (lines_of text bads) (lines_of text constraints) r₃
+        unfolding header_at after_bads
+        on₃ on =
+            on₂ on
+            ∙ stage_on _ _ _
+            (λ ls next. after_constraints judged (header_at h) text on (lines_of text outputs) (lines_of text bads) ls next) stage₃.is
 
-            module _ (f₃ : r₃.fault ≡ false) where
-              abbrev constraints : Lines
-              constraints = record { at = r₂.at; count = h.c.value }
+        pub counts_wrong : (x : Fault) → Err x ≡ ended_as (section count_form judged (worth h.m) text (worth h.j) [] r₃) → Wrong x.at
+        unfolding header_at after_constraints
+        counts_wrong x e on = on₃ on ∙ stage_wrong _ _ x e
 
-              pub stage₃ : Stage text (Used (worth text h.c) r₂.at) 1 r₂.at (worth text h.c) h.c.value r₃.at
-              stage₃ = used_stage (worth text h.c) h.c.value r₂.at r₃ p.c.value stage₂.inside e₃ f₃
+        module _ (r₄ : ℕ) (e₄ : Ok r₄ ≡ ended_as (section count_form judged (worth h.m) text (worth h.j) [] r₃)) where
+          abbrev counts : Lines
+          counts = record { at = r₃; count = h.j.value }
 
-              on₃ : (on : CircuitText.Properties → ℕ → Text)
-                  → on_properties judged (header_at text h) text at on
-                  ≡ after_constraints judged (header_at text h) text on (lines_of text outputs) (lines_of text bads) (lines_of text constraints) r₃.at
-              unfolding header_at after_bads
-              on₃ on =
-                  on₂ on
-                  ∙ stage_on _ _ _
-                  (λ ls next. after_constraints judged (header_at text h) text on (lines_of text outputs) (lines_of text bads) ls next) stage₃.is
+          pub stage₄ : Stage text (section count_form judged (worth h.m) text (worth h.j) [] r₃) 1 r₃ (worth h.j)
+              h.j.value r₄
+          unfolding count_form
+          stage₄ =
+              stage count_form judged (worth h.m) text [] r₃ (worth h.j) h.j.value r₄ (value_is h.j) stage₃.inside (omega arith) short e₄
 
-              module _ (r₄ : Ended) (e₄ : r₄ ≡ ended_as (section count_form judged (worth text h.m) text (worth text h.j) [] r₃.at)) where
-                pub counts_wrong : r₄.fault ≡ true → Wrong r₄.at
-                unfolding header_at after_constraints
-                counts_wrong f on = on₃ on ∙ stage_wrong _ _ r₄ e₄ f
+          on₄ : (on : CircuitText.Properties → ℕ → Text)
+              → on_properties judged (header_at h) text at on
+              ≡ after_counts judged (header_at h) text on (lines_of text outputs) (lines_of text bads) (lines_of text constraints)
+              (lines_of text counts) r₄
+          unfolding header_at after_constraints
+          on₄ on =
+              on₃ on
+              ∙ stage_on _ _ _
+              (λ ls next.
+              after_counts judged (header_at h) text on (lines_of text outputs) (lines_of text bads) (lines_of text constraints) ls next)
+              stage₄.is
 
-                module _ (f₄ : r₄.fault ≡ false) where
-                  abbrev counts : Lines
-                  counts = record { at = r₃.at; count = h.j.value }
+          pub justice_wrong : (x : Fault) → Err x ≡ ended_as (Used (total (lines_of text counts)) r₄) → Wrong x.at
+          unfolding header_at after_counts
+          justice_wrong x e on = on₄ on ∙ stage_wrong _ _ x e
 
-                  pub stage₄ : Stage text (section count_form judged (worth text h.m) text (worth text h.j) [] r₃.at) 1 r₃.at (worth text h.j)
-                      h.j.value r₄.at
-                  unfolding count_form
-                  stage₄ =
-                      stage count_form judged (worth text h.m) text [] r₃.at (worth text h.j) h.j.value r₄ p.j.value stage₃.inside (omega arith) short e₄ f₄
+          module _ (k : ℕ) (k_is : k ≡ capped (total (lines_of text counts))) (r₅ : ℕ) (e₅ : Ok r₅ ≡ ended_as (Used (total (lines_of text counts)) r₄)) where
+            abbrev justice : Lines
+            justice = record { at = r₄; count = k }
 
-                  on₄ : (on : CircuitText.Properties → ℕ → Text)
-                      → on_properties judged (header_at text h) text at on
-                      ≡ after_counts judged (header_at text h) text on (lines_of text outputs) (lines_of text bads) (lines_of text constraints)
-                      (lines_of text counts) r₄.at
-                  unfolding header_at after_constraints
-                  on₄ on =
-                      on₃ on
-                      ∙ stage_on _ _ _
-                      (λ ls next.
-                      after_counts judged (header_at text h) text on (lines_of text outputs) (lines_of text bads) (lines_of text constraints) ls next)
-                      stage₄.is
+            pub stage₅ : Stage text (Used (total (lines_of text counts)) r₄) 1 r₄ (total (lines_of text counts)) k r₅
+            stage₅ = used_stage (total (lines_of text counts)) k r₄ r₅ k_is stage₄.inside e₅
 
-                  module _ (k : ℕ) (k_is : k ≡ capped (total (lines_of text counts))) (r₅ : Ended)
-                      (e₅ : r₅ ≡ ended_as (Used (total (lines_of text counts)) r₄.at)) where
-                    pub justice_wrong : r₅.fault ≡ true → Wrong r₅.at
-                    unfolding header_at after_counts
-                    justice_wrong f on = on₄ on ∙ stage_wrong _ _ r₅ e₅ f
+            on₅ : (on : CircuitText.Properties → ℕ → Text)
+                → on_properties judged (header_at h) text at on
+                ≡ after_justice judged (header_at h) text on (lines_of text outputs) (lines_of text bads) (lines_of text constraints)
+                (lines_of text counts) (lines_of text justice) r₅
+            unfolding header_at after_counts
+            on₅ on =
+                on₄ on
+                ∙ stage_on _ _ _
+                (λ ls next.
+                after_justice judged (header_at h) text on (lines_of text outputs) (lines_of text bads) (lines_of text constraints)
+                (lines_of text counts) ls next)
+                stage₅.is
 
-                    module _ (f₅ : r₅.fault ≡ false) where
-                      abbrev justice : Lines
-                      justice = record { at = r₄.at; count = k }
+            pub fairness_wrong : (x : Fault) → Err x ≡ ended_as (Used (worth h.f) r₅) → Wrong x.at
+            unfolding header_at after_justice
+            fairness_wrong x e on = on₅ on ∙ stage_wrong _ _ x e
 
-                      pub stage₅ : Stage text (Used (total (lines_of text counts)) r₄.at) 1 r₄.at (total (lines_of text counts)) k r₅.at
-                      stage₅ = used_stage (total (lines_of text counts)) k r₄.at r₅ k_is stage₄.inside e₅ f₅
+            module _ (r₆ : ℕ) (e₆ : Ok r₆ ≡ ended_as (Used (worth h.f) r₅)) where
+              abbrev fairness : Lines
+              fairness = record { at = r₅; count = h.f.value }
 
-                      on₅ : (on : CircuitText.Properties → ℕ → Text)
-                          → on_properties judged (header_at text h) text at on
-                          ≡ after_justice judged (header_at text h) text on (lines_of text outputs) (lines_of text bads) (lines_of text constraints)
-                          (lines_of text counts) (lines_of text justice) r₅.at
-                      unfolding header_at after_counts
-                      on₅ on =
-                          on₄ on
-                          ∙ stage_on _ _ _
-                          (λ ls next.
-                          after_justice judged (header_at text h) text on (lines_of text outputs) (lines_of text bads) (lines_of text constraints)
-                          (lines_of text counts) ls next)
-                          stage₅.is
+              abbrev properties : Properties
+              properties =
+                  record {
+                    outputs = outputs;
+                    bads = bads;
+                    constraints = constraints;
+                    counts = counts;
+                    justice = justice;
+                    fairness = fairness;
+                  }
 
-                      module _ (r₆ : Ended) (e₆ : r₆ ≡ ended_as (Used (worth text h.f) r₅.at)) where
-                        pub fairness_wrong : r₆.fault ≡ true → Wrong r₆.at
-                        unfolding header_at after_justice
-                        fairness_wrong f on = on₅ on ∙ stage_wrong _ _ r₆ e₆ f
+              stage₆ : Stage text (Used (worth h.f) r₅) 1 r₅ (worth h.f) h.f.value r₆
+              stage₆ = used_stage (worth h.f) h.f.value r₅ r₆ (value_is h.f) stage₅.inside e₆
 
-                        module _ (f₆ : r₆.fault ≡ false) where
-                          abbrev fairness : Lines
-                          fairness = record { at = r₅.at; count = h.f.value }
-
-                          abbrev properties : Properties
-                          properties =
-                              record {
-                                outputs = outputs;
-                                bads = bads;
-                                constraints = constraints;
-                                counts = counts;
-                                justice = justice;
-                                fairness = fairness;
-                              }
-
-                          stage₆ : Stage text (Used (worth text h.f) r₅.at) 1 r₅.at (worth text h.f) h.f.value r₆.at
-                          stage₆ = used_stage (worth text h.f) h.f.value r₅.at r₆ p.f.value stage₅.inside e₆ f₆
-
-                          pub all_read : Read text h judged at properties r₆.at
-                          unfolding header_at after_justice properties_of
-                          all_read =
-                              record {
-                                is = λ on.
-                                    on₅ on
-                                    ∙ stage_on _ _ _
-                                    (λ ls next.
-                                    on
-                                    (record {
-                                      outputs = lines_of text outputs;
-                                      bads = lines_of text bads;
-                                      constraints = lines_of text constraints;
-                                      counts = lines_of text counts;
-                                      justice = lines_of text justice;
-                                      fairness = ls;
-                                    })
-                                    next)
-                                    stage₆.is;
-                                rows =
-                                    record {
-                                      outputs = stage₁.rows;
-                                      bads = stage₂.rows;
-                                      constraints = stage₃.rows;
-                                      counts = stage₄.rows;
-                                      justice = stage₅.rows;
-                                      fairness = stage₆.rows;
-                                    };
-                                inside = stage₆.inside;
-                                counted =
-                                    record {
-                                      o = record { is = stage₁.value; small = stage₁.small };
-                                      b = record { is = stage₂.value; small = stage₂.small };
-                                      c = record { is = stage₃.value; small = stage₃.small };
-                                      j = record { is = stage₄.value; small = stage₄.small };
-                                      f = record { is = stage₆.value; small = stage₆.small };
-                                    };
-                              }
+              pub all_read : Read text h judged at properties r₆
+              unfolding header_at after_justice properties_of
+              all_read =
+                  record {
+                    is = λ on.
+                        on₅ on
+                        ∙ stage_on _ _ _
+                        (λ ls next.
+                        on
+                        (record {
+                          outputs = lines_of text outputs;
+                          bads = lines_of text bads;
+                          constraints = lines_of text constraints;
+                          counts = lines_of text counts;
+                          justice = lines_of text justice;
+                          fairness = ls;
+                        })
+                        next)
+                        stage₆.is;
+                    rows =
+                        record {
+                          outputs = stage₁.rows;
+                          bads = stage₂.rows;
+                          constraints = stage₃.rows;
+                          counts = stage₄.rows;
+                          justice = stage₅.rows;
+                          fairness = stage₆.rows;
+                        };
+                    inside = stage₆.inside;
+                    counted =
+                        record {
+                          o = record { is = stage₁.value; small = stage₁.small };
+                          b = record { is = stage₂.value; small = stage₂.small };
+                          c = record { is = stage₃.value; small = stage₃.small };
+                          j = record { is = stage₄.value; small = stage₄.small };
+                          f = record { is = stage₆.value; small = stage₆.small };
+                        };
+                  }

@@ -1,21 +1,19 @@
 -- The sections of a text, one stage after another.
-use Rattle.std.specs.Prelude.{ℕ, zero, suc, ◌+◌, ◌*◌, ◌≤◌, ◌<◌, ◌≡◌, ◌⊎◌, Bool, true, false, cond, List, [], ◌∷◌, ◌++◌, length, ltb}
-use Rattle.std.proofs.Common.{arith, sym, ap, subst, ◌∙◌, inl, inr, true≢false, append-nil, ltb-true, ltb-false}
+use Rattle.std.specs.Prelude.{ℕ, ◌*◌, ◌≤◌, ◌<◌, ◌≡◌, ◌⊎◌, Bool, true, false, List, [], ◌++◌, length, ltb, Ok, Err}
+use Rattle.std.proofs.Common.{arith, sym, ap, subst, ◌∙◌, inl, inr, ltb-true, ltb-false}
 use Rattle.std.proofs.Math.Path.{refl}
 use Rattle.std.proofs.Math.Option.{Option, none, some}
-use Rattle.meaning.specs.CircuitText.{Header, Form, Section, Line, Text, Properties, Sections, fault, lines, section, input_form, latch_form, used_form, count_form, gate_form, defined_in, total, symbols_fault, on_lines, on_none, on_properties, used_of, after_header, wrong, right}
+use Rattle.meaning.specs.CircuitText.{Header, Form, Section, Line, Text, Properties, fault, lines, section, input_form, latch_form, used_form, count_form, gate_form, defined_in, total, symbols_fault, on_lines, on_none, on_properties, used_of, after_header, wrong}
 use Rattle.laws.specs.Basics.{bool_cases}
 use Rattle.lines.specs.Numbers.{huge, capped}
 use Rattle.lines.specs.Literals.{capped_below}
-use Rattle.sections.specs.declared.find.Lines.{Lines}
-use Rattle.sections.specs.declared.read.Ended.{Ended}
-use Rattle.sections.specs.Lists.{first_lines, line_after}
+use Rattle.sections.specs.Lists.{first_lines}
 use Rattle.sections.specs.Reading.{ended_as, capped_most}
 use Rattle.sections.specs.SectionLines.{Rows, rows_inside, section_rows}
 use Rattle.sections.specs.Far.{rows_far}
 use Rattle.sections.specs.Whole.{lines_of, RowsAt}
-use Rattle.symbols.specs.declared.Fault.{Fault}
-use Rattle.symbols.specs.Symbols.{fault_of}
+use Rattle.lines.specs.declared.fault.Fault.{Fault}
+use Rattle.lines.specs.Faults.{fault_of}
 
 -- the largest length that a slice has
 abbrev pub word_most : ℕ
@@ -23,15 +21,15 @@ word_most = 18446744073709551615
 
 -- ---- how a section ended
 
-pub stage_wrong : (S : Section) (on : List Line → ℕ → Text) (r : Ended) → r ≡ ended_as S → r.fault ≡ true → on_lines S on ≡ wrong r.at
+pub stage_wrong : (S : Section) (on : List Line → ℕ → Text) (e : Fault) → Err e ≡ ended_as S → on_lines S on ≡ wrong e.at
 unfolding ended_as on_lines
-stage_wrong (fault at) on r is e = ap wrong (sym (ap (λ (x : Ended). x.at) is))
-stage_wrong (lines ls next) on r is e = absurd (true≢false (sym e ∙ ap (λ (x : Ended). x.fault) is))
+stage_wrong (fault at) on e is = let same : e ≡ record { at = at } = cc in ap (λ (x : Fault). wrong x.at) (sym same)
+stage_wrong (lines ls next) on e is = absurd (cc)
 
-stage_lines : (S : Section) (r : Ended) → r ≡ ended_as S → r.fault ≡ false → (ls : List Line) × (S ≡ lines ls r.at)
+stage_lines : (S : Section) (r : ℕ) → Ok r ≡ ended_as S → (ls : List Line) × (S ≡ lines ls r)
 unfolding ended_as
-stage_lines (fault at) r is e = absurd (true≢false (sym (ap (λ (x : Ended). x.fault) is) ∙ e))
-stage_lines (lines ls next) r is e = (ls, ap (lines ls) (sym (ap (λ (x : Ended). x.at) is)))
+stage_lines (fault at) r is = absurd (cc)
+stage_lines (lines ls next) r is = (ls, cc)
 
 -- a count of lines that stand in a text is not capped
 count_is : (text : List ℕ) (n v : ℕ) → v ≡ capped n → 2 * n ≤ length text → length text ≤ word_most → (v ≡ n) × (v < huge)
@@ -51,21 +49,21 @@ pub record Stage (text : List ℕ) (S : Section) (width at n v next : ℕ) : Typ
   pub value : n ≡ v
   pub small : v < huge
 
-pub stage : (f : Form) (judged : Bool) (m : ℕ) (text : List ℕ) (before : List ℕ) (at n v : ℕ) (r : Ended) → v ≡ capped n
+pub stage : (f : Form) (judged : Bool) (m : ℕ) (text : List ℕ) (before : List ℕ) (at n v r : ℕ) → v ≡ capped n
     → at ≤ length text → 1 ≤ f.width → length text ≤ word_most
-    → r ≡ ended_as (section f judged m text n before at) → r.fault ≡ false
-    → Stage text (section f judged m text n before at) f.width at n v r.at
+    → Ok r ≡ ended_as (section f judged m text n before at)
+    → Stage text (section f judged m text n before at) f.width at n v r
 unfolding lines_of
-stage f judged m text before at n v r v_is inside least short r_is fine =
-    let found = stage_lines (section f judged m text n before at) r r_is fine in
-    let read = section_rows f judged m text n before at found.0 r.at found.1 in
+stage f judged m text before at n v r v_is inside least short r_is =
+    let found = stage_lines (section f judged m text n before at) r r_is in
+    let read = section_rows f judged m text n before at found.0 r found.1 in
     let end = rows_inside text f.width at n inside read.rows in
     let few : 2 * n ≤ length text = omega (arith, rows_far text f.width 2 (omega arith) at n read.rows, end) in
     let value = count_is text n v v_is few short in
     record {
       is =
-          found.1 ∙ ap (λ (ls : List Line). lines ls r.at) read.lines_are
-          ∙ ap (λ (k : ℕ). lines (first_lines text at k) r.at) (sym value.0);
+          found.1 ∙ ap (λ (ls : List Line). lines ls r) read.lines_are
+          ∙ ap (λ (k : ℕ). lines (first_lines text at k) r) (sym value.0);
       rows = record { inside = inside; rows = subst (Rows text f.width at) (sym value.0) read.rows };
       inside = subst (λ (k : ℕ). k ≤ length text) (sym read.next_is) end;
       value = sym value.0;
@@ -78,15 +76,15 @@ stage_on S ls next on e = ap (λ (s : Section). on_lines s on) e
 
 -- ---- the symbols
 
-pub symbols_wrong : (o : Option ℕ) (on : Text) (f : Fault) → f ≡ fault_of o → f.found ≡ true → on_none o on ≡ wrong f.at
+pub symbols_wrong : (o : Option ℕ) (on : Text) (e : Fault) → Err e ≡ fault_of o → on_none o on ≡ wrong e.at
 unfolding fault_of on_none
-symbols_wrong none on f is e = absurd (true≢false (sym e ∙ ap (λ (x : Fault). x.found) is))
-symbols_wrong (some at) on f is e = ap wrong (sym (ap (λ (x : Fault). x.at) is))
+symbols_wrong none on e is = absurd (cc)
+symbols_wrong (some at) on e is = let same : e ≡ record { at = at } = cc in ap (λ (x : Fault). wrong x.at) (sym same)
 
-pub symbols_fine : (o : Option ℕ) (on : Text) (f : Fault) → f ≡ fault_of o → f.found ≡ false → on_none o on ≡ on
+pub symbols_fine : (o : Option ℕ) (on : Text) (u : Unit {0}) → Ok u ≡ fault_of o → on_none o on ≡ on
 unfolding fault_of on_none
-symbols_fine none on f is e = refl
-symbols_fine (some at) on f is e = absurd (true≢false (sym (ap (λ (x : Fault). x.found) is) ∙ e))
+symbols_fine none on u is = refl
+symbols_fine (some at) on u is = absurd (cc)
 
 -- ---- what comes after each section
 

@@ -1,6 +1,6 @@
 -- Counts of justice properties, put together as far as a word holds.
-use Rattle.std.specs.Prelude.{ℕ, zero, suc, ◌+◌, ◌-◌, ◌≤◌, ◌<◌, ◌≡◌, refl, ◌⊎◌, Bool, true, false, cond, List, [], ◌∷◌, ◌++◌, length, get_or, leb}
-use Rattle.std.proofs.Common.{arith, add-one, sym, ap, subst, ◌∙◌, inl, inr, le-leb, leb-true, leb-false}
+use Rattle.std.specs.Prelude.{ℕ, ◌+◌, ◌-◌, ◌≤◌, ◌<◌, ◌≡◌, ◌⊎◌, true, false, List, [], ◌∷◌, ◌++◌, get_or, leb}
+use Rattle.std.proofs.Common.{arith, add-one, sym, ap, ◌∙◌, inl, inr, le-leb, leb-true, leb-false}
 use Rattle.std.proofs.lemmas.Bool.{lt-leb}
 use Rattle.meaning.specs.CircuitText.{Line, at_number, numbers_at, total}
 use Rattle.laws.specs.Basics.{bool_cases}

@@ -1,90 +1,51 @@
 // The header: aag M I L O A, or aag M I L O A B C J F of which the last may be left out.
-ghost use Rattle.std.specs.Prelude.{◌≡◌, true, false, ◌≤◌, length};
+ghost use Rattle.std.specs.Prelude.{◌≡◌, true, ◌≤◌, length};
 ghost use Rattle.meaning.specs.Lines.{ended, line_at, of_numbers};
 ghost use Rattle.circuit_text.specs.Header.{starts, HeaderIs, WidthIs, NumberIs};
 
 use lines::compare::compare;
 use lines::line::{line_past, next_line};
-use lines::number::Number;
+use lines::number::{Number, no_number};
 use sections::nth::nth;
 
-// Whether the header is right; if so, where the next line starts, whether it is of edition 1.9, and its numbers: 0 for each that is left out.
+// A right header: where the next line starts, whether it is of edition 1.9, and its numbers: 0 for each that is left out.
 #[derive(Clone, Copy)]
-pub struct Header {
-    pub right: bool,
+pub struct Header<'a> {
     pub next: usize,
     pub newer: bool,
-    pub m: Number,
-    pub i: Number,
-    pub l: Number,
-    pub o: Number,
-    pub a: Number,
-    pub b: Number,
-    pub c: Number,
-    pub j: Number,
-    pub f: Number,
+    pub m: Number<'a>,
+    pub i: Number<'a>,
+    pub l: Number<'a>,
+    pub o: Number<'a>,
+    pub a: Number<'a>,
+    pub b: Number<'a>,
+    pub c: Number<'a>,
+    pub j: Number<'a>,
+    pub f: Number<'a>,
 }
 
 // The text starts with 'aag' and a space.
 pub fn starts(text: &[u8]) -> bool
     ensures { result ≡ starts text.now }
 {
-    if text.len() < 4 {
-        return false;
-    }
-    if text[0] != 97 {
-        return false;
-    }
-    if text[1] != 97 {
-        return false;
-    }
-    if text[2] != 103 {
-        return false;
-    }
-    text[3] == 32
+    text.starts_with(b"aag ")
 }
 
-fn wrong() -> Header
-    ensures { result.right ≡ false }
-{
-    let none = Number {
-        start: 0,
-        end: 0,
-        value: 0,
-    };
-    Header {
-        right: false,
-        next: 0,
-        newer: false,
-        m: none,
-        i: none,
-        l: none,
-        o: none,
-        a: none,
-        b: none,
-        c: none,
-        j: none,
-        f: none,
-    }
-}
-
-// How many numbers follow 'aag' and its space: five to nine; 0 where the line is not of so many numbers.
-pub fn width_of(text: &[u8]) -> usize
+// How many numbers follow 'aag' and its space, if these are five to nine.
+pub fn width_of(text: &[u8]) -> Option<usize>
     requires { 4 ≤ length text.now }
     ensures { WidthIs text.now result }
 {
-    let mut width: usize = 5;
-    while width < 10 {
-        if line_past(text, 4, width) != 0 {
-            return width;
+    for width in 5..10 {
+        if line_past(text, 4, width).is_some() {
+            return Some(width);
         }
-        width += 1;
     }
-    0
+    None
 }
 
 // Number j of so many that follow 'aag' and its space; one that is left out is 0.
-fn number_of(text: &[u8], width: usize, j: usize) -> Number
+fn number_of(text: &[u8], width: usize, j: usize) -> Number<'_>
     requires in_bounds { 4 ≤ length text.now }
     requires text_value { ended text.now 4 ≡ true }
     requires text_value_2 { of_numbers width (line_at text.now 4) ≡ true }
@@ -93,24 +54,17 @@ fn number_of(text: &[u8], width: usize, j: usize) -> Number
     if j < width {
         return nth(text, 4, j);
     }
-    Number {
-        start: 4,
-        end: 4,
-        value: 0,
-    }
+    no_number()
 }
 
 // 'aag' and five to nine numbers, with I + L + A at most M.
-pub fn read_header(text: &[u8]) -> Header
+pub fn read_header(text: &[u8]) -> Option<Header<'_>>
     ensures { HeaderIs text.now result }
 {
     if !starts(text) {
-        return wrong();
+        return None;
     }
-    let width = width_of(text);
-    if width == 0 {
-        return wrong();
-    }
+    let width = width_of(text)?;
     let m = number_of(text, width, 0);
     let i = number_of(text, width, 1);
     let l = number_of(text, width, 2);
@@ -120,8 +74,10 @@ pub fn read_header(text: &[u8]) -> Header
     let c = number_of(text, width, 6);
     let j = number_of(text, width, 7);
     let f = number_of(text, width, 8);
-    Header {
-        right: compare(text, i, l, a, 0, m) != 2,
+    if compare(&i, &l, &a, 0, &m).is_gt() {
+        return None;
+    }
+    Some(Header {
         next: next_line(text, 4),
         newer: 5 < width,
         m,
@@ -133,5 +89,5 @@ pub fn read_header(text: &[u8]) -> Header
         c,
         j,
         f,
-    }
+    })
 }

@@ -1,8 +1,7 @@
 -- The problem file handed over to the caller.
-use Rattle.std.specs.Prelude.{ℕ, ◌+◌, ◌≤◌, ◌<◌, ◌≡◌, refl, cond, List, [], ◌++◌, length, get_or, take, drop, set, ltb}
-use Rattle.std.proofs.Common.{arith, add-one, sym, ap, ◌∙◌, length-set, take_all, lt-ltb, le-ltb}
-use Rattle.std.proofs.Math.Seq.{paste, paste-zero, paste-suc}
-use Rattle.meaning.specs.Meaning.{Problem, k}
+use Rattle.std.specs.Prelude.{ℕ, ◌≤◌, ◌<◌, ◌≡◌, cond, List, [], ◌++◌, length, take, drop, ltb}
+use Rattle.std.proofs.Common.{sym, ap, ◌∙◌, lt-ltb, le-ltb}
+use Rattle.meaning.specs.Meaning.{Problem}
 use Rattle.meaning.specs.File.{accepted}
 use Rattle.meaning.specs.Filed.{file_of}
 use Rattle.meaning.specs.Calls
@@ -42,44 +41,6 @@ pub handed_asked : (text lemmas out lent : List ℕ) (len : ℕ) → WrittenAs t
     → o ≡ handed_over (take len out) lent → o ≡ circuit_problem_call text lemmas 0 lent
 handed_asked text lemmas out lent len w o told =
     told ∙ ap (λ (file : List ℕ). handed_over file lent) w.bytes ∙ handed_is text lemmas lent w.problem w.is
-
--- ---- the copy, byte by byte
-
-pub record Copied (from to after : List ℕ) (i : ℕ) : Type 0 where
-  pub is : after ≡ paste to 0 from i
-  pub long : length after ≡ length to
-  pub low : i ≤ length from
-
-pub copied_none : (from to : List ℕ) → Copied from to to 0
-copied_none from to = record { is = paste-zero to 0 from; long = refl; low = omega arith }
-
-pub copied_more : (from to after : List ℕ) (i : ℕ) → Copied from to after i → i < length from → length from ≤ length to
-    → Copied from to (set after i (get_or from i 0)) (i + 1)
-copied_more from to after i c less room =
-    let place : 0 + i ≡ i = omega arith in
-    let inside : 0 + i < length to = omega arith in
-    record {
-      is =
-          ap (λ (l : List ℕ). set l i (get_or from i 0)) c.is
-          ∙ ap (λ (j : ℕ). set (paste to 0 from i) j (get_or from i 0)) (sym place)
-          ∙ paste-suc to 0 from i 0 inside less
-          ∙ ap (paste to 0 from) (sym (add-one i));
-      long = length-set after i (get_or from i 0) ∙ c.long;
-      low = omega arith;
-    }
-
-pub copied_all : (from to after : List ℕ) (i : ℕ) → Copied from to after i → (i < length from → ⊥)
-    → after ≡ from ++ drop (length from) to
-copied_all from to after i c past =
-    c.is ∙ ap (paste to 0 from) (all_of c.low)
-    ∙ ap (λ (l : List ℕ). l ++ drop (0 + length from) to) (take_all (length from) from (omega arith))
-    ∙ ap (λ (k : ℕ). from ++ drop k to) (zero_first (length from))
-  where
-    all_of : i ≤ length from → i ≡ length from
-    all_of low = omega arith
-
-    zero_first : (k : ℕ) → 0 + k ≡ k
-    zero_first k = omega arith
 
 -- ---- what is handed over
 

@@ -1,6 +1,6 @@
 -- Both texts read, and the file that is written.
-use Rattle.std.specs.Prelude.{ℕ, ◌+◌, ◌≤◌, ◌<◌, ◌≡◌, Bool, true, false, ◌||◌, cond, ltb}
-use Rattle.std.proofs.Common.{arith, ◌∙◌, true≢false}
+use Rattle.std.specs.Prelude.{ℕ, ◌+◌, ◌≤◌, ◌<◌, ◌≡◌, Bool, true, false, ◌||◌, cond, ltb, Result, Ok, Err, IsOkAnd, MatchResult}
+use Rattle.std.proofs.Common.{arith, ◌∙◌}
 use Rattle.std.proofs.Math.Path.{refl, sym, ap, subst}
 use mathlib.Core.List.{List, [], ◌++◌}
 use Rattle.std.proofs.Math.ListN.{length, take, drop, length-append}
@@ -19,9 +19,10 @@ use Rattle.meaning.specs.Circuits.{read_circuit, on_circuit, on_lemmas, over_lim
 use Rattle.circuit_laws.specs.Limits.{in_limits}
 use Rattle.circuit_laws.specs.AcceptedTexts.{accepted_fits}
 use Rattle.records.specs.Put.{put}
-use Rattle.circuit_text.specs.declared.read.Found.{Found}
-use Rattle.circuit_text.specs.declared.read.Found.TheVariants as found
+use Rattle.lines.specs.declared.fault.Fault.{Fault}
+use Rattle.std.specs.Prelude.{Ok, Err}
 use Rattle.circuit_text.specs.Read.{TextRead}
+use Rattle.lines.specs.declared.fault.Fault.{Fault}
 use Rattle.lemma_text.specs.declared.Lemmas.{Lemmas}
 use Rattle.lemma_text.specs.Rest.{summary_of, lemmas_of, longest}
 use Rattle.sections.specs.declared.circuit.Circuit.{Circuit}
@@ -32,22 +33,22 @@ use Rattle.built.specs.Edges.{Small}
 use Rattle.built.specs.Problem.{problem_of}
 use Rattle.circuits.specs.declared.limits.Counted.{Counted}
 use Rattle.circuits.specs.Limits.{over_counts, over_is, longest_within, one_within, text_within, lemmas_within, liveness, liveness_is}
-use Rattle.circuits.specs.declared.reading.Texts.{Texts}
-use Rattle.circuits.specs.declared.reading.Texts.TheVariants as texts
-use Rattle.circuits.specs.declared.reading.Filed.{Filed}
-use Rattle.circuits.specs.declared.reading.Filed.TheVariants as filed
+use Rattle.circuits.specs.declared.refusal.Refusal.{Refusal}
+use Rattle.circuits.specs.Refused.{number_of, place_of}
 
 -- a circuit and lemmas whose problem is within the limits
 pub record WithinLimits (text lemmas : List ℕ) (c : Circuit) : Type 0 where
   pub is : read_circuit text lemmas ≡ accepted (problem_of text c lemmas)
   pub small : Small text c
   pub one : OneBad c.properties
-  pub fine : (summary_of (read_lemma_text c.latches.count lemmas)).fault ≡ false
-  pub short : (summary_of (read_lemma_text c.latches.count lemmas)).longest ≤ 64
+  pub short : IsOkAnd (summary_of (read_lemma_text c.latches.count lemmas)) (λ l. l.longest ≤ 64)
 
-abbrev pub Judged : List ℕ → List ℕ → Texts → Type 0
-Judged text lemmas (texts.Refused number place) = read_circuit text lemmas ≡ rejected (record { number = number; place = place })
-Judged text lemmas (texts.Within c) = WithinLimits text lemmas c
+-- the reading refuses them so
+abbrev pub Refuses : List ℕ → List ℕ → Refusal → Type 0
+Refuses text lemmas r = read_circuit text lemmas ≡ rejected (record { number = number_of r; place = place_of r })
+
+abbrev pub Judged : List ℕ → List ℕ → Result Circuit Refusal → Type 0
+Judged text lemmas r = MatchResult r (WithinLimits text lemmas) (Refuses text lemmas)
 
 -- a problem file in the first bytes
 pub record WrittenAs (text lemmas out : List ℕ) (len : ℕ) : Type 0 where
@@ -57,9 +58,8 @@ pub record WrittenAs (text lemmas out : List ℕ) (len : ℕ) : Type 0 where
   pub inside : len ≤ length out
   pub most : len ≤ 46220
 
-abbrev pub FiledAs : List ℕ → List ℕ → List ℕ → Filed → Type 0
-FiledAs text lemmas out (filed.Refused number place) = read_circuit text lemmas ≡ rejected (record { number = number; place = place })
-FiledAs text lemmas out (filed.Written len) = WrittenAs text lemmas out len
+abbrev pub FiledAs : List ℕ → List ℕ → List ℕ → Result ℕ Refusal → Type 0
+FiledAs text lemmas out r = MatchResult r (WrittenAs text lemmas out) (Refuses text lemmas)
 
 -- ---- the lemmas, and the limits
 
@@ -67,24 +67,24 @@ FiledAs text lemmas out (filed.Written len) = WrittenAs text lemmas out len
 pub few_latches : (text : List ℕ) (c : Circuit) → Whole text c → length text ≤ 18446744073709551615 → c.latches.count < 18446744073709551610
 few_latches text c w short = omega (arith, rows_few 2 2 (omega arith) w.latches)
 
-module _ (text lemmas : List ℕ) (c : Circuit) (whole : Whole text c) (reads : read_circuit_text text ≡ CircuitText.right (circuit_at text c)) (found : Lemmas)
-    (found_is : found ≡ summary_of (read_lemma_text c.latches.count lemmas)) where
+module _ (text lemmas : List ℕ) (c : Circuit) (whole : Whole text c) (reads : read_circuit_text text ≡ CircuitText.right (circuit_at text c)) where
   on_text : read_circuit text lemmas ≡ on_lemmas text lemmas (circuit_at text c) (read_lemma_text c.latches.count lemmas)
   unfolding read_circuit on_circuit
   on_text =
       ap (on_circuit text lemmas) reads
       ∙ ap (λ (n : ℕ). on_lemmas text lemmas (circuit_at text c) (read_lemma_text n lemmas)) (latch_count text c)
 
-  pub lemmas_wrong : found.fault ≡ true → read_circuit text lemmas ≡ rejected (record { number = 13; place = found.at })
+  pub lemmas_wrong : (fault : Fault) → Err fault ≡ summary_of (read_lemma_text c.latches.count lemmas)
+      → read_circuit text lemmas ≡ rejected (record { number = 13; place = fault.at })
   unfolding on_lemmas refusal_13 summary_of
-  lemmas_wrong e = on_text ∙ go (read_lemma_text c.latches.count lemmas) found_is
+  lemmas_wrong fault is = on_text ∙ go (read_lemma_text c.latches.count lemmas) is
     where
-      go : (l : LemmaText.Lemmas) → found ≡ summary_of l
-          → on_lemmas text lemmas (circuit_at text c) l ≡ rejected (record { number = 13; place = found.at })
-      go (LemmaText.wrong at) is = ap refusal_13 (sym (ap (λ (x : Lemmas). x.at) is))
-      go (LemmaText.right cs) is = absurd (true≢false (sym e ∙ ap (λ (x : Lemmas). x.fault) is))
+      go : (l : LemmaText.Lemmas) → Err fault ≡ summary_of l
+          → on_lemmas text lemmas (circuit_at text c) l ≡ rejected (record { number = 13; place = fault.at })
+      go (LemmaText.wrong at) e = cc
+      go (LemmaText.right cs) e = cc
 
-  module _ (fine : found.fault ≡ false) where
+  module _ (found : Lemmas) (found_is : Ok found ≡ summary_of (read_lemma_text c.latches.count lemmas)) where
     abbrev counted : Counted
     counted =
         record {
@@ -104,10 +104,10 @@ module _ (text lemmas : List ℕ) (c : Circuit) (whole : Whole text c) (reads : 
     unfolding summary_of
     right_is = go (read_lemma_text c.latches.count lemmas) refl found_is
       where
-        go : (l : LemmaText.Lemmas) → read_lemma_text c.latches.count lemmas ≡ l → found ≡ summary_of l
+        go : (l : LemmaText.Lemmas) → read_lemma_text c.latches.count lemmas ≡ l → Ok found ≡ summary_of l
             → (cs : List Clause) × (read_lemma_text c.latches.count lemmas ≡ LemmaText.right cs) × (found.count ≡ length cs) × (found.longest ≡ longest cs)
-        go (LemmaText.wrong at) t is = absurd (true≢false (sym (ap (λ (x : Lemmas). x.fault) is) ∙ fine))
-        go (LemmaText.right cs) t is = (cs, t, ap (λ (x : Lemmas). x.count) is, ap (λ (x : Lemmas). x.longest) is)
+        go (LemmaText.wrong at) t is = cc
+        go (LemmaText.right cs) t is = (cs, t, cc, cc)
 
     on_right : read_circuit text lemmas
         ≡ cond (has_liveness (circuit_at text c)) refusal_15
@@ -167,8 +167,9 @@ module _ (text lemmas : List ℕ) (c : Circuit) (whole : Whole text c) (reads : 
                         helpers = omega (arith, limits.helpers_few, input_count text c, gate_count text c);
                       };
                   one = one_kept;
-                  fine = sym (ap (λ (x : Lemmas). x.fault) found_is) ∙ fine;
-                  short = subst (λ (x : Lemmas). x.longest ≤ 64) found_is (longest_within counted (sym said ∙ kept));
+                  short =
+                      subst (λ (r : Result Lemmas Fault). IsOkAnd r (λ (l : Lemmas). l.longest ≤ 64)) found_is
+                      (longest_within counted (sym said ∙ kept));
                 }
 
 -- ---- both texts
@@ -178,39 +179,30 @@ pub circuit_wrong : (text lemmas : List ℕ) (at : ℕ) → read_circuit_text te
 unfolding read_circuit on_circuit refusal_13
 circuit_wrong text lemmas at e = ap (on_circuit text lemmas) e
 
-module _ (text lemmas : List ℕ) (f : Found) (r : TextRead text f) where
-  pub found_fault : (at : ℕ) → f ≡ found.Fault at → read_circuit text lemmas ≡ rejected (record { number = 13; place = at })
-  found_fault at e = circuit_wrong text lemmas at (subst (TextRead text) e r)
+pub found_fault : (text lemmas : List ℕ) (e : Fault) → TextRead text (Err e) → read_circuit text lemmas ≡ rejected (record { number = 13; place = e.at })
+found_fault text lemmas e r = circuit_wrong text lemmas e.at r
 
-  pub found_whole : (c : Circuit) → f ≡ found.Whole c
-      → Whole text c × (read_circuit_text text ≡ CircuitText.right (circuit_at text c))
-  found_whole c e = let both = subst (TextRead text) e r in (both.1, both.0)
+pub found_whole : (text : List ℕ) (c : Circuit) → TextRead text (Ok c) → Whole text c × (read_circuit_text text ≡ CircuitText.right (circuit_at text c))
+found_whole text c r = (r.1, r.0)
 
 -- ---- the file
 
-module _ (text lemmas : List ℕ) (t : Texts) (j : Judged text lemmas t) where
-  pub texts_refused : (number place : ℕ) → t ≡ texts.Refused number place → read_circuit text lemmas ≡ rejected (record { number = number; place = place })
-  texts_refused number place e = subst (Judged text lemmas) e j
+module _ (text lemmas : List ℕ) (c : Circuit) (within : WithinLimits text lemmas c) where
+  pub texts_fit : length (file_of (problem_of text c lemmas)) ≤ 46220
+  texts_fit = (accepted_fits text lemmas (problem_of text c lemmas) within.is).1
 
-  module _ (c : Circuit) (e : t ≡ texts.Within c) where
-    pub texts_within : WithinLimits text lemmas c
-    texts_within = subst (Judged text lemmas) e j
-
-    pub texts_fit : length (file_of (problem_of text c lemmas)) ≤ 46220
-    texts_fit = (accepted_fits text lemmas (problem_of text c lemmas) texts_within.is).1
-
-    pub texts_written : (out after : List ℕ) (len : ℕ) → 46220 ≤ length out → len ≡ length (file_of (problem_of text c lemmas))
-        → after ≡ put 0 (file_of (problem_of text c lemmas)) out → WrittenAs text lemmas after len
-    unfolding put
-    texts_written out after len room len_is after_is =
-        let bytes = file_of (problem_of text c lemmas) in
-        record {
-          problem = problem_of text c lemmas;
-          is = texts_within.is;
-          bytes =
-              ap (take len) after_is ∙ ap (λ (k : ℕ). take k (bytes ++ drop (0 + length bytes) out)) len_is
-              ∙ take-append_seam bytes (drop (0 + length bytes) out);
-          inside =
-              omega (arith, len_is, ap length after_is, length-append bytes (drop (0 + length bytes) out));
-          most = subst (λ (k : ℕ). k ≤ 46220) (sym len_is) texts_fit;
-        }
+  pub texts_written : (out after : List ℕ) (len : ℕ) → 46220 ≤ length out → len ≡ length (file_of (problem_of text c lemmas))
+      → after ≡ put 0 (file_of (problem_of text c lemmas)) out → WrittenAs text lemmas after len
+  unfolding put
+  texts_written out after len room len_is after_is =
+      let bytes = file_of (problem_of text c lemmas) in
+      record {
+        problem = problem_of text c lemmas;
+        is = within.is;
+        bytes =
+            ap (take len) after_is ∙ ap (λ (k : ℕ). take k (bytes ++ drop (0 + length bytes) out)) len_is
+            ∙ take-append_seam bytes (drop (0 + length bytes) out);
+        inside =
+            omega (arith, len_is, ap length after_is, length-append bytes (drop (0 + length bytes) out));
+        most = subst (λ (k : ℕ). k ≤ 46220) (sym len_is) texts_fit;
+      }

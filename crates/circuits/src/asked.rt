@@ -1,12 +1,14 @@
 // The jobs: any two texts, any budget, any length of lent bytes.
-ghost use Rattle.std.specs.Prelude.{◌≡◌, [], ◌++◌, ◌≤◌, length, drop};
-ghost use Rattle.meaning.specs.Calls.{refusal};
-ghost use Rattle.meaning.specs.Circuits.{circuit_check_call, circuit_largest_call, circuit_one_call, circuit_list_call, circuit_problem_call};
+ghost use Rattle.std.specs.Prelude.{◌≡◌, [], length};
+ghost use Rattle.meaning.specs.Calls.{on_reading};
+ghost use Rattle.meaning.specs.Circuits.{read_circuit, circuit_check_call, circuit_largest_call, circuit_one_call, circuit_list_call, circuit_problem_call};
 ghost use Rattle.problem.specs.Answers.{report_of};
+ghost use Rattle.circuits.specs.Asked.{Job, Does};
 ghost use Rattle.circuits.specs.Handed.{handed_over};
 ghost use Rattle.jobs.specs.Outcome.{outcome_of};
 
-use crate::reading::{Filed, file_of};
+use crate::reading::file_of;
+use crate::refusal::Refusal;
 use problem::Report;
 
 // As many bytes as the file of a circuit's problem may take.
@@ -16,18 +18,20 @@ fn room() -> [u8; 46220]
     [0; 46220]
 }
 
-// A refusal returns its number and place.
-fn refused(number: u32, place: usize) -> Report
-    ensures { report_of result ≡ (refusal number place 0 0 []).report }
+// A job on the problem file of two texts, which is written into bytes of this room's own, and on what is lent; or their refusal.
+fn asked<F: FnOnce(&[u8], &mut [u8]) -> Report>(
+    circuit: &[u8],
+    lemmas: &[u8],
+    lent: &mut [u8],
+    job: F,
+) -> Report
+    requires { F.IsAlwaysCallable job }
+    ensures { (call : Job) → Does circuit.now lemmas.now lent.old call (F.post job) → outcome_of result lent.new ≡ on_reading (read_circuit circuit.now lemmas.now) call lent.old }
 {
-    Report {
-        number,
-        place,
-        decisions: 0,
-        rows: 0,
-        n: 0,
-        m: 0,
-        k: 0,
+    let mut file = room();
+    match file_of(circuit, lemmas, &mut file) {
+        Ok(len) => job(&file[..len], lent),
+        Err(r) => Report::from(r),
     }
 }
 
@@ -35,60 +39,43 @@ fn refused(number: u32, place: usize) -> Report
 pub fn check(circuit: &[u8], lemmas: &[u8]) -> Report
     ensures { report_of result ≡ (circuit_check_call circuit.now lemmas.now 0 []).report }
 {
-    let mut file = room();
-    let made = file_of(circuit, lemmas, &mut file);
-    match made {
-        Filed::Refused(number, place) => refused(number, place),
-        Filed::Written(len) => problem::check(&file[..len]),
-    }
+    asked(circuit, lemmas, &mut [], |file, _| problem::check(file))
 }
 
 // Mark the largest inductive subset.
 pub fn mark_largest(circuit: &[u8], lemmas: &[u8], budget: u32, marks: &mut [u8]) -> Report
     ensures { outcome_of result marks.new ≡ circuit_largest_call circuit.now lemmas.now budget marks.old }
 {
-    let mut file = room();
-    let made = file_of(circuit, lemmas, &mut file);
-    match made {
-        Filed::Refused(number, place) => refused(number, place),
-        Filed::Written(len) => jobs::mark_largest(&file[..len], budget, marks),
-    }
+    asked(
+        circuit,
+        lemmas,
+        marks,
+        |file, lent| jobs::mark_largest(file, budget, lent),
+    )
 }
 
 // Mark one minimal safe inductive subset.
 pub fn mark_one(circuit: &[u8], lemmas: &[u8], budget: u32, marks: &mut [u8]) -> Report
     ensures { outcome_of result marks.new ≡ circuit_one_call circuit.now lemmas.now budget marks.old }
 {
-    let mut file = room();
-    let made = file_of(circuit, lemmas, &mut file);
-    match made {
-        Filed::Refused(number, place) => refused(number, place),
-        Filed::Written(len) => jobs::mark_one(&file[..len], budget, marks),
-    }
+    asked(
+        circuit,
+        lemmas,
+        marks,
+        |file, lent| jobs::mark_one(file, budget, lent),
+    )
 }
 
 // List all minimal safe inductive subsets.
 pub fn list_all(circuit: &[u8], lemmas: &[u8], budget: u32, rows: &mut [u8]) -> Report
     ensures { outcome_of result rows.new ≡ circuit_list_call circuit.now lemmas.now budget rows.old }
 {
-    let mut file = room();
-    let made = file_of(circuit, lemmas, &mut file);
-    match made {
-        Filed::Refused(number, place) => refused(number, place),
-        Filed::Written(len) => jobs::list_all(&file[..len], budget, rows),
-    }
-}
-
-// Bytes into the first of those that are lent.
-fn copy(from: &[u8], to: &mut [u8])
-    requires { length from.now ≤ length to.old }
-    ensures { to.new ≡ from.now ++ drop (length from.now) to.old }
-{
-    let mut i: usize = 0;
-    while i < from.len() {
-        to[i] = from[i];
-        i += 1;
-    }
+    asked(
+        circuit,
+        lemmas,
+        rows,
+        |file, lent| jobs::list_all(file, budget, lent),
+    )
 }
 
 // A problem file that is lent, into the bytes of the caller: 12 where it does not fit.
@@ -96,18 +83,16 @@ fn hand_over(own: &[u8], file: &mut [u8]) -> Report
     ensures { outcome_of result file.new ≡ handed_over own.now file.old }
 {
     if file.len() < own.len() {
-        return refused(12, 0);
+        return Report::from(Refusal::Room);
     }
     let checked = problem::check(own);
-    copy(own, file);
+    file[..own.len()].copy_from_slice(own);
     Report {
-        number: 0,
-        place: 0,
-        decisions: 0,
         rows: own.len(),
         n: checked.n,
         m: checked.m,
         k: checked.k,
+        ..Report::default()
     }
 }
 
@@ -115,10 +100,5 @@ fn hand_over(own: &[u8], file: &mut [u8]) -> Report
 pub fn problem(circuit: &[u8], lemmas: &[u8], file: &mut [u8]) -> Report
     ensures { outcome_of result file.new ≡ circuit_problem_call circuit.now lemmas.now 0 file.old }
 {
-    let mut own = room();
-    let made = file_of(circuit, lemmas, &mut own);
-    match made {
-        Filed::Refused(number, place) => refused(number, place),
-        Filed::Written(len) => hand_over(&own[..len], file),
-    }
+    asked(circuit, lemmas, file, |own, lent| hand_over(own, lent))
 }

@@ -5,5 +5,6 @@
 mod asked;
 pub mod limits;
 pub mod reading;
+pub mod refusal;
 
 pub use asked::{check, list_all, mark_largest, mark_one, problem};

@@ -20,13 +20,7 @@ pub struct Counted {
 fn one_bad(outputs: usize, bads: usize) -> bool
     ensures { result ≡ eqb (outputs + bads) 1 }
 {
-    if outputs == 0 {
-        return bads == 1;
-    }
-    if bads == 0 {
-        return outputs == 1;
-    }
-    false
+    matches!((outputs, bads), (0, 1) | (1, 0))
 }
 
 // A text over 65,536 bytes; no latch, or more than 96; I + A over 320; other than one literal in outputs and bad literals together; over 128
@@ -34,29 +28,13 @@ fn one_bad(outputs: usize, bads: usize) -> bool
 pub fn over_limits(x: Counted) -> bool
     ensures { result ≡ over_counts x }
 {
-    if 65536 < x.text {
-        return true;
-    }
-    if 65536 < x.lemma_text {
-        return true;
-    }
-    if x.latches == 0 {
-        return true;
-    }
-    if 96 < x.latches {
-        return true;
-    }
-    if 320 < x.inputs {
-        return true;
-    }
-    if 320 - x.inputs < x.gates {
-        return true;
-    }
-    if !one_bad(x.outputs, x.bads) {
-        return true;
-    }
-    if 128 < x.lemmas {
-        return true;
-    }
-    64 < x.longest
+    65536 < x.text
+        || 65536 < x.lemma_text
+        || x.latches == 0
+        || 96 < x.latches
+        || 320 < x.inputs
+        || 320 - x.inputs < x.gates
+        || !one_bad(x.outputs, x.bads)
+        || 128 < x.lemmas
+        || 64 < x.longest
 }

@@ -1,8 +1,8 @@
 -- How many clauses come of a line: those of its edges, less those that a constant true drops.
-use Rattle.std.specs.Prelude.{ℕ, zero, suc, ◌+◌, ◌/◌, ◌≤◌, ◌≡◌, Bool, true, false, ◌||◌, cond}
+use Rattle.std.specs.Prelude.{ℕ, zero, suc, ◌+◌, ◌/◌, ◌≤◌, ◌≡◌, Bool, true, false, ◌||◌, Option, is_none}
 use native.Mathlib.Omega.{arith}
 use Rattle.std.proofs.Math.Path.{refl}
-use Rattle.std.proofs.Common.{sym, ◌∙◌, eq-eqb, ne_eqb}
+use Rattle.std.proofs.Common.{sym, ◌∙◌, ne_eqb}
 use mathlib.Core.List.{List, [], ◌∷◌, ◌++◌}
 use Rattle.std.proofs.Math.ListN.{length, get_or, length-append}
 use Rattle.std.proofs.lemmas.List.{length-map}
@@ -12,6 +12,8 @@ use Rattle.meaning.specs.Circuit.{Circuit, Start, at_0, at_1, at_either, var, ne
 use Rattle.meaning.specs.Built.{Edge, constant, named, edge, opposite, clause_if, and_clauses, next_clauses, start_clause}
 use Rattle.meaning.specs.CircuitText.{start_of}
 use Rattle.lines.specs.Numbers.{capped}
+use Rattle.clause_count.specs.declared.count.Kind.{Kind}
+use Rattle.clause_count.specs.declared.count.Kind.TheVariants as kind
 use Rattle.clause_count.specs.Start.{start_code, start_in, capped_is}
 
 -- it is constantly true
@@ -53,49 +55,57 @@ false_is c (suc zero) = refl
 false_is c (suc (suc l)) =
     rw (ne_eqb (suc (suc l) / 2) 0 (λ e. omega (arith, e))) (sym (ne_eqb (suc (suc l)) 0 (λ e. omega (arith, e))))
 
+-- the same of literals that are constantly true or not
+unfoldable pub unless_any : List Bool → ℕ
+unless_any bs = unless (any (λ (b : Bool). b) bs)
+
 -- ---- the clauses of a line with these numbers
 
 -- of a literal that is to be 1
 unfoldable pub clauses_of_one : List ℕ → ℕ
-clauses_of_one ns = unless (eqb (get_or ns 0 0) 1 || (false || false))
+clauses_of_one ns = unless_any (eqb (get_or ns 0 0) 1 ∷ [])
 
 -- of a start as the code holds it
-unfoldable pub clauses_of_start : ℕ → ℕ
-clauses_of_start start = unless (eqb start 2 || (false || false))
+unfoldable pub clauses_of_start : Option Bool → ℕ
+clauses_of_start start = unless_any (is_none start ∷ [])
 
 -- of a latch: its start, and its next value
 unfoldable pub clauses_of_latch : List ℕ → ℕ
 clauses_of_latch ns =
-    clauses_of_start (start_in ns) + unless (eqb (get_or ns 1 0) 1 || (false || false)) + unless (eqb (get_or ns 1 0) 0 || (false || false))
+    clauses_of_start (start_in ns) + unless_any (eqb (get_or ns 1 0) 1 ∷ []) + unless_any (eqb (get_or ns 1 0) 0 ∷ [])
 
 -- of a gate
 unfoldable pub clauses_of_gate : List ℕ → ℕ
 clauses_of_gate ns =
-    unless (eqb (get_or ns 1 0) 1 || (eqb (get_or ns 0 0) 0 || false)) + unless (eqb (get_or ns 2 0) 1 || (eqb (get_or ns 0 0) 0 || false))
-    + unless (eqb (get_or ns 0 0) 1 || (eqb (get_or ns 1 0) 0 || eqb (get_or ns 2 0) 0))
+    unless_any (eqb (get_or ns 1 0) 1 ∷ eqb (get_or ns 0 0) 0 ∷ []) + unless_any (eqb (get_or ns 2 0) 1 ∷ eqb (get_or ns 0 0) 0 ∷ [])
+    + unless_any (eqb (get_or ns 0 0) 1 ∷ eqb (get_or ns 1 0) 0 ∷ eqb (get_or ns 2 0) 0 ∷ [])
 
--- by how many numbers it has at least
-unfoldable pub clauses_of : ℕ → List ℕ → ℕ
-clauses_of width ns = cond (eqb width 1) (clauses_of_one ns) (cond (eqb width 2) (clauses_of_latch ns) (clauses_of_gate ns))
+-- how many numbers a line of a kind has at least
+abbrev pub width_of : Kind → ℕ
+width_of kind.One = 1
+width_of kind.Latch = 2
+width_of kind.Gate = 3
 
-or_false : (b : Bool) → (b || false) ≡ b
-or_false true = refl
-or_false false = refl
+-- by what stands on it
+abbrev pub clauses_of : Kind → List ℕ → ℕ
+clauses_of kind.One ns = clauses_of_one ns
+clauses_of kind.Latch ns = clauses_of_latch ns
+clauses_of kind.Gate ns = clauses_of_gate ns
 
 module _ (c : Circuit) where
   pub one_length : (ns : List ℕ) → length (clause_if (edge c (get_or ns 0 0) ∷ [])) ≡ clauses_of_one ns
-  unfolding clauses_of_one any
+  unfolding clauses_of_one unless_any any
   one_length ns = clause_length (edge c (get_or ns 0 0) ∷ []) ∙ rw (true_is c (get_or ns 0 0))
 
   start_length : (i : ℕ) (s : Start) → length (start_clause i s) ≡ clauses_of_start (start_code s)
-  unfolding start_clause clauses_of_start start_code unless
+  unfolding start_clause clauses_of_start start_code unless_any any unless
   start_length i at_0 = refl
   start_length i at_1 = refl
   start_length i at_either = refl
 
   next_length : (y x : ℕ)
-      → length (next_clauses y (edge c x)) ≡ unless (eqb x 1 || (false || false)) + unless (eqb x 0 || (false || false))
-  unfolding next_clauses any is_true
+      → length (next_clauses y (edge c x)) ≡ unless_any (eqb x 1 ∷ []) + unless_any (eqb x 0 ∷ [])
+  unfolding next_clauses unless_any any is_true
   next_length y x =
       let first = clause_length (named (neg y) ∷ edge c x ∷ []) in
       let second = clause_length (named (pos y) ∷ opposite (edge c x) ∷ []) in
@@ -109,7 +119,7 @@ module _ (c : Circuit) where
 
   pub gate_length : (ns : List ℕ)
       → length (and_clauses (edge c (get_or ns 0 0)) (edge c (get_or ns 1 0)) (edge c (get_or ns 2 0))) ≡ clauses_of_gate ns
-  unfolding clauses_of_gate and_clauses any
+  unfolding clauses_of_gate and_clauses unless_any any
   gate_length ns =
       let g = get_or ns 0 0 in
       let a = get_or ns 1 0 in
@@ -121,8 +131,8 @@ module _ (c : Circuit) where
       clause_length first ∙ rw (true_is c a, false_is c g) in
       let is_second : length (clause_if second) ≡ unless (eqb b 1 || (eqb g 0 || false)) =
       clause_length second ∙ rw (true_is c b, false_is c g) in
-      let is_third : length (clause_if third) ≡ unless (eqb g 1 || (eqb a 0 || eqb b 0)) =
-      clause_length third ∙ rw (true_is c g, false_is c a, false_is c b, or_false) in
+      let is_third : length (clause_if third) ≡ unless (eqb g 1 || (eqb a 0 || (eqb b 0 || false))) =
+      clause_length third ∙ rw (true_is c g, false_is c a, false_is c b) in
       omega (
         arith,
         length-append (clause_if first) (clause_if second ++ clause_if third),
@@ -134,17 +144,17 @@ module _ (c : Circuit) where
 
 -- ---- the same by values below the bound
 
-pub one_counted : (ns : List ℕ) (l : ℕ) → l ≡ capped (get_or ns 0 0) → unless (eqb l 1 || (false || false)) ≡ clauses_of_one ns
+pub one_counted : (ns : List ℕ) (l : ℕ) → l ≡ capped (get_or ns 0 0) → unless_any (eqb l 1 ∷ []) ≡ clauses_of_one ns
 unfolding clauses_of_one
 one_counted ns l is = rw (is, capped_is (get_or ns 0 0) 1 (omega arith))
 
-pub latch_counted : (ns : List ℕ) (s x : ℕ) → s ≡ start_in ns → x ≡ capped (get_or ns 1 0)
-    → unless (eqb s 2 || (false || false)) + unless (eqb x 1 || (false || false)) + unless (eqb x 0 || (false || false)) ≡ clauses_of_latch ns
+pub latch_counted : (ns : List ℕ) (s : Option Bool) (x : ℕ) → s ≡ start_in ns → x ≡ capped (get_or ns 1 0)
+    → unless_any (is_none s ∷ []) + unless_any (eqb x 1 ∷ []) + unless_any (eqb x 0 ∷ []) ≡ clauses_of_latch ns
 unfolding clauses_of_latch clauses_of_start
 latch_counted ns s x start is = rw (start, is, capped_is (get_or ns 1 0) 1 (omega arith), capped_is (get_or ns 1 0) 0 (omega arith))
 
 pub gate_counted : (ns : List ℕ) (g a b : ℕ) → g ≡ capped (get_or ns 0 0) → a ≡ capped (get_or ns 1 0) → b ≡ capped (get_or ns 2 0)
-    → unless (eqb a 1 || (eqb g 0 || false)) + unless (eqb b 1 || (eqb g 0 || false)) + unless (eqb g 1 || (eqb a 0 || eqb b 0))
+    → unless_any (eqb a 1 ∷ eqb g 0 ∷ []) + unless_any (eqb b 1 ∷ eqb g 0 ∷ []) + unless_any (eqb g 1 ∷ eqb a 0 ∷ eqb b 0 ∷ [])
     ≡ clauses_of_gate ns
 unfolding clauses_of_gate
 gate_counted ns g a b g_is a_is b_is =
@@ -159,17 +169,3 @@ gate_counted ns g a b g_is a_is b_is =
       capped_is (get_or ns 2 0) 0 (omega arith),
       capped_is (get_or ns 2 0) 1 (omega arith),
     )
-
--- ---- which line it is
-
-pub width_one : (ns : List ℕ) (width : ℕ) → width ≡ 1 → clauses_of_one ns ≡ clauses_of width ns
-unfolding clauses_of
-width_one ns width is = sym (rw (eq-eqb width 1 is))
-
-pub width_two : (ns : List ℕ) (width : ℕ) → (width ≡ 1 → ⊥) → width ≡ 2 → clauses_of_latch ns ≡ clauses_of width ns
-unfolding clauses_of
-width_two ns width not_1 is = sym (rw (ne_eqb width 1 not_1, eq-eqb width 2 is))
-
-pub width_three : (ns : List ℕ) (width : ℕ) → (width ≡ 1 → ⊥) → (width ≡ 2 → ⊥) → clauses_of_gate ns ≡ clauses_of width ns
-unfolding clauses_of
-width_three ns width not_1 not_2 = sym (rw (ne_eqb width 1 not_1, ne_eqb width 2 not_2))

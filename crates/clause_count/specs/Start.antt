@@ -1,5 +1,5 @@
 -- Where a latch starts, by its line: the third number, which a line may lack.
-use Rattle.std.specs.Prelude.{ℕ, zero, suc, ◌≤◌, ◌<◌, ◌≡◌, refl, ◌⊎◌, true, List, [], ◌∷◌, get_or, leb}
+use Rattle.std.specs.Prelude.{ℕ, zero, suc, ◌≤◌, ◌<◌, ◌≡◌, refl, ◌⊎◌, Bool, true, false, List, [], ◌∷◌, get_or, leb, Option, Some, None, is_some}
 use Rattle.std.proofs.Common.{arith, ap, ◌∙◌, inl, inr}
 use Rattle.std.proofs.Math.Path.{sym}
 use Rattle.std.proofs.Math.Bool.{false}
@@ -13,18 +13,18 @@ use Rattle.laws.specs.Basics.{bool_cases, and_both, not_both}
 use Rattle.lines.specs.Numbers.{huge, capped}
 use Rattle.lines.specs.Literals.{capped_below}
 use Rattle.lines.specs.Past.{line_past}
-use Rattle.sections.specs.LineOf.{past_zero, past_some}
+use Rattle.sections.specs.LineOf.{past_none, past_some}
 use Rattle.sections.specs.Split.{numbers_count}
 use Rattle.clause_count.specs.Rows.{RowAt}
 
--- a start as the code holds it: 0, 1, or 2 for either
-unfoldable pub start_code : Start → ℕ
-start_code at_0 = 0
-start_code at_1 = 1
-start_code at_either = 2
+-- a start as the code holds it: the value, or none for either
+unfoldable pub start_code : Start → Option Bool
+start_code at_0 = Some false
+start_code at_1 = Some true
+start_code at_either = None
 
 -- the start of the latch whose line has these numbers
-unfoldable pub start_in : List ℕ → ℕ
+unfoldable pub start_in : List ℕ → Option Bool
 start_in ns = start_code (start_of (get_or ns 2 0))
 
 -- ---- the third number, if there is one
@@ -34,16 +34,16 @@ past_last [] k h = refl
 past_last (a ∷ ns) zero h = absurd (omega arith)
 past_last (a ∷ ns) (suc k) h = past_last ns k (omega arith)
 
-module _ (text : List ℕ) (line : ℕ) (row : RowAt text 2 line) (r : ℕ) (is : r ≡ line_past 2 text line) where
-  pub third_lacks : (r ≡ 0 → ⊥) → 0 ≡ start_in (numbers_at text line)
+module _ (text : List ℕ) (line : ℕ) (row : RowAt text 2 line) (r : Option ℕ) (is : r ≡ line_past 2 text line) (b : Bool) (told : b ≡ is_some r) where
+  pub third_lacks : b ≡ true → Some false ≡ start_in (numbers_at text line)
   unfolding start_in start_of start_code numbers_at
   third_lacks some =
-      let two = numbers_count 2 (line_at text line) (past_some 2 text line r is some).1 in
+      let two = numbers_count 2 (line_at text line) (past_some 2 text line r is b told some).1 in
       sym
       (ap (λ (z : ℕ). start_code (start_of z))
       (past_last (numbers_at text line) 2 (omega (arith, two, length-map (words (line_at text line)) decimal))))
 
-  pub third_stands : r ≡ 0 → RowAt text 3 line
+  pub third_stands : b ≡ false → RowAt text 3 line
   unfolding of_numbers
   third_stands none =
       record { inside = row.inside; closed = row.closed; numbers = row.numbers; wide = go (bool_cases (eqb (length (words (line_at text line))) 2)) }
@@ -53,7 +53,7 @@ module _ (text : List ℕ) (line : ℕ) (row : RowAt text 2 line) (r : ℕ) (is 
       go (inl t) =
           absurd
           (not_both (and_both (ended text line) (of_numbers 2 (line_at text line)) row.closed (and_both _ _ t row.numbers))
-          (past_zero 2 text line r is none))
+          (past_none 2 text line r is b told none))
       go (inr t) = omega (arith, eqb-false (length (words (line_at text line))) 2 t, row.wide)
 
 -- ---- what a number below the bound decides
@@ -69,20 +69,21 @@ capped_is w k less = go (bool_cases (leb huge w))
         rw t (ne_eqb huge k (λ e. omega (arith, e)) ∙ sym (ne_eqb w k far))
     go (inr t) = rw t
 
-code_given : (z : ℕ) → z < 2 → z ≡ start_code (start_of z)
-unfolding start_code start_of
-code_given zero h = refl
-code_given (suc zero) h = refl
-code_given (suc (suc z)) h = absurd (omega arith)
-
 module _ (w v : ℕ) (is : v ≡ capped w) where
-  pub start_given : v < 2 → v ≡ start_code (start_of w)
-  start_given less =
-      code_given v less ∙ ap (λ (z : ℕ). start_code (start_of z)) (is ∙ capped_below w (omega (arith, is)))
+  given : (k : ℕ) → k < 2 → v ≡ k → k ≡ w
+  given k less e = sym e ∙ is ∙ capped_below w (omega (arith, is, e))
 
-  pub start_itself : 2 ≤ v → 2 ≡ start_code (start_of w)
+  pub start_at_0 : v ≡ 0 → Some false ≡ start_code (start_of w)
   unfolding start_code start_of
-  start_itself more =
-      let not_0 : eqb w 0 ≡ false = sym (capped_is w 0 (omega arith)) ∙ ne_eqb (capped w) 0 (λ e. omega (arith, is, e)) in
-      let not_1 : eqb w 1 ≡ false = sym (capped_is w 1 (omega arith)) ∙ ne_eqb (capped w) 1 (λ e. omega (arith, is, e)) in
+  start_at_0 e = ap (λ (z : ℕ). start_code (start_of z)) (given 0 (omega arith) e)
+
+  pub start_at_1 : v ≡ 1 → Some true ≡ start_code (start_of w)
+  unfolding start_code start_of
+  start_at_1 e = ap (λ (z : ℕ). start_code (start_of z)) (given 1 (omega arith) e)
+
+  pub start_free : (v ≡ 0 → ⊥) → (v ≡ 1 → ⊥) → None ≡ start_code (start_of w)
+  unfolding start_code start_of
+  start_free some more =
+      let not_0 : eqb w 0 ≡ false = sym (capped_is w 0 (omega arith)) ∙ ne_eqb (capped w) 0 (λ e. some (is ∙ e)) in
+      let not_1 : eqb w 1 ≡ false = sym (capped_is w 1 (omega arith)) ∙ ne_eqb (capped w) 1 (λ e. more (is ∙ e)) in
       sym (rw (not_0, not_1))

@@ -9,9 +9,8 @@ use sections::find::Lines;
 pub fn bad_lines(p: Properties) -> Lines
     ensures { result ≡ bad_lines p }
 {
-    let bads = p.bads;
-    if 0 < bads.count {
-        return bads;
+    if 0 < p.bads.count {
+        return p.bads;
     }
     p.outputs
 }

@@ -13,7 +13,7 @@ pub mod count;
 pub mod start;
 
 use bad::bad_lines;
-use count::lines_clauses;
+use count::{Kind, lines_clauses};
 use sections::circuit::Circuit;
 
 // The clauses of Init, Tr and Bad together: gates and constraints stand in Tr and in Bad.
@@ -23,14 +23,10 @@ pub fn clause_count(text: &[u8], c: Circuit) -> usize
     requires text_len_bound { length text.now ≤ 65536 }
     ensures { (result ≡ clause_count (built (circuit_at text.now c) [])) × (result ≤ 589824) }
 {
-    let latches = c.latches;
-    let gates = c.gates;
-    let properties = c.properties;
-    let constraints = properties.constraints;
-    let bad = bad_lines(properties);
-    let l = lines_clauses(text, latches, 2);
-    let g = lines_clauses(text, gates, 3);
-    let k = lines_clauses(text, constraints, 1);
-    let b = lines_clauses(text, bad, 1);
+    let bad = bad_lines(c.properties);
+    let l = lines_clauses(text, c.latches, Kind::Latch);
+    let g = lines_clauses(text, c.gates, Kind::Gate);
+    let k = lines_clauses(text, c.properties.constraints, Kind::One);
+    let b = lines_clauses(text, bad, Kind::One);
     l + g + g + k + k + b
 }

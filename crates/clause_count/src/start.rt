@@ -13,21 +13,20 @@ pub fn value_at(text: &[u8], line: usize, j: usize) -> usize
     requires { RowAt text.now (suc j) line }
     ensures { result ≡ capped (get_or (numbers_at text.now line) j 0) }
 {
-    let x = nth(text, line, j);
-    x.value
+    nth(text, line, j).value
 }
 
-// Where the latch of a line starts: at 0 or 1, its third number; at either, which is 2; at 0 where there is no third number.
-pub fn start_at(text: &[u8], line: usize) -> usize
+// Where the latch of a line starts: at 0 or 1, its third number; none where it is free to start at either; at 0 where there is no third number.
+pub fn start_at(text: &[u8], line: usize) -> Option<bool>
     requires { RowAt text.now 2 line }
     ensures { result ≡ start_in (numbers_at text.now line) }
 {
-    if line_past(text, line, 2) != 0 {
-        return 0;
+    if line_past(text, line, 2).is_some() {
+        return Some(false);
     }
-    let start = value_at(text, line, 2);
-    if start < 2 {
-        return start;
+    match value_at(text, line, 2) {
+        0 => Some(false),
+        1 => Some(true),
+        _ => None,
     }
-    2
 }

@@ -10,17 +10,11 @@ pub struct Spot {
     pub position: usize,
 }
 
-// A record's kind, and its position among the records of that kind.
+// A record's kind, which is whatever number stands in its head, and its position among the records of that kind.
 #[derive(Clone, Copy)]
 pub struct Found {
     pub kind: usize,
     pub position: usize,
-}
-
-fn wide(x: u8) -> usize
-    ensures { result ≡ x }
-{
-    x as usize
 }
 
 // Two bytes at a place.
@@ -31,7 +25,7 @@ pub fn word_at(file: &[u8], at: usize) -> usize
         return 0;
     }
     if file.len() - at == 1 {
-        return wide(file[at]);
+        return file[at] as usize;
     }
     format::two_at(file, at)
 }
@@ -40,10 +34,7 @@ pub fn word_at(file: &[u8], at: usize) -> usize
 pub fn word_on(file: &[u8], at: usize, by: usize) -> usize
     ensures { (result ≡ two_at file.now (at + by)) × (result < 65536) }
 {
-    if file.len() <= at {
-        return 0;
-    }
-    if file.len() - at <= by {
+    if file.len() <= at || file.len() - at <= by {
         return 0;
     }
     word_at(file, at + by)
@@ -53,10 +44,7 @@ pub fn word_on(file: &[u8], at: usize, by: usize) -> usize
 pub fn left_from(file: &[u8], at: usize) -> usize
     ensures { result ≡ length file.now - at }
 {
-    if file.len() <= at {
-        return 0;
-    }
-    file.len() - at
+    file.len().saturating_sub(at)
 }
 
 // The position of a record behind another of that position: the next, or 0 where the kind is another.
@@ -74,22 +62,21 @@ fn position_after(file: &[u8], at: usize, next: usize, position: usize) -> usize
 fn start_around(file: &[u8], place: usize) -> Spot
     ensures { result ≡ start_around file.now place }
 {
-    let mut at: usize = 0;
-    let mut position: usize = 0;
-    let mut left = file.len();
-    while 0 < left {
-        if file.len() <= at {
-            return Spot { at, position };
+    let mut s = Spot { at: 0, position: 0 };
+    for _passed in 0..file.len() {
+        if file.len() <= s.at {
+            return s;
         }
-        let next = at + 4 + word_at(file, at);
+        let next = s.at + 4 + word_at(file, s.at);
         if place < next {
-            return Spot { at, position };
+            return s;
         }
-        position = position_after(file, at, next, position);
-        at = next;
-        left -= 1;
+        s = Spot {
+            at: next,
+            position: position_after(file, s.at, next, s.position),
+        };
     }
-    Spot { at, position }
+    s
 }
 
 // The record around a place.

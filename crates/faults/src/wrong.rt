@@ -53,21 +53,11 @@ fn variable_of(u: usize) -> usize
 fn class_there(kind: usize) -> Class
     ensures { class_of result ≡ (kind_row kind).class }
 {
+    // A kind is whatever two bytes of the file say, so it is a number here.
     if 7 <= kind {
         return Class::Nothing;
     }
-    let row = Row::of(kind);
-    row.class
-}
-
-// The state variable that a variable is the next value of.
-fn next_of(v: usize, n: usize) -> usize
-    ensures { result ≡ v - n }
-{
-    if v <= n {
-        return 0;
-    }
-    v - n
+    Row::of(kind).class
 }
 
 // A variable that the class of a record does not name.
@@ -76,14 +66,11 @@ fn unnamed(class: Class, v: usize, n: usize, m: usize) -> Fault
     ensures { result ≡ unnamed (class_of class) v n m }
 {
     match class {
-        Class::Nothing => Fault::NoState(v, n),
-        Class::State => Fault::NoState(v, n),
-        Class::Present => {
-            if v <= n + n {
-                return Fault::NextValue(v, next_of(v, n));
-            }
-            Fault::NoVariable(v, n, m, n + n + m)
-        }
+        Class::Nothing | Class::State => Fault::NoState(v, n),
+        // v is the next value of the state variable v - n.
+        Class::Present if v <= n + n => Fault::NextValue(v, v.saturating_sub(n)),
+        // An arm of its own: as an or-pattern behind the guard its goal has a name that may change.
+        Class::Present => Fault::NoVariable(v, n, m, n + n + m),
         Class::Every => Fault::NoVariable(v, n, m, n + n + m),
     }
 }
@@ -107,16 +94,14 @@ fn number_fault(file: &[u8], place: usize) -> Fault
     ensures { result ≡ number_fault file.now place }
 {
     let s = around(file, place);
-    if s.kind != 5 {
-        return Fault::ManyClauses;
+    if s.kind == 5 && s.position == Problem::LEMMAS_MOST {
+        Fault::ManyLemmas
+    } else {
+        Fault::ManyClauses
     }
-    if s.position == Problem::LEMMAS_MOST {
-        return Fault::ManyLemmas;
-    }
-    Fault::ManyClauses
 }
 
-// What a refusal's number says of the file, at its place.
+// What a refusal's number, which is the C interface's, says of the file, at its place.
 pub fn fault_of(file: &[u8], number: u32, place: usize) -> Fault
     ensures { result ≡ fault_of file.now number place }
 {

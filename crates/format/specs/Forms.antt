@@ -1,5 +1,4 @@
 -- What the code's types stand for: a class, a row of the kind table, a literal.
-use Rattle.std.specs.Prelude.{ℕ, suc, ◌-◌, cond, ltb, ℤ, pos, negsuc}
 use Rattle.meaning.specs.File
 use Rattle.meaning.specs.File.{Kind}
 use Rattle.meaning.specs.Clauses
@@ -23,12 +22,3 @@ kind_of r =
 abbrev pub literal_of : Literal → Clauses.Literal
 literal_of (Pos v) = Clauses.pos v
 literal_of (Neg v) = Clauses.neg v
-
--- the signed number that two bytes say
-unfoldable pub signed_number : ℕ → ℤ
-signed_number u = cond (ltb u 32768) (pos u) (negsuc (65535 - u))
-
--- the literal of a signed number
-unfoldable pub signed_literal : ℤ → Clauses.Literal
-signed_literal (pos v) = Clauses.pos v
-signed_literal (negsuc v) = Clauses.neg (suc v)

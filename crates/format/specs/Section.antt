@@ -30,9 +30,9 @@ problem_at file r =
     record {
       n = r.n;
       m = r.m;
-      init = section file r.init_at r.init_count;
-      tr = section file r.tr_at r.tr_count;
-      bad = section file r.bad_at r.bad_count;
+      init = section file r.init.at r.init.count;
+      tr = section file r.tr.at r.tr.count;
+      bad = section file r.bad.at r.bad.count;
       lemmas = section file r.lemmas_at r.k;
     }
 
@@ -43,9 +43,9 @@ pub record Placed (file : List ℕ) (r : Problem) : Type 0 where
   pub n_in : r.n ≤ n_most
   pub m_in : r.m ≤ m_most
   pub k_in : r.k ≤ lemmas_most
-  pub counts_in : r.init_count + r.tr_count + r.bad_count + r.k ≤ clauses_most
-  pub init_in : Inside file r.init_at r.init_count
-  pub tr_in : Inside file r.tr_at r.tr_count
-  pub bad_in : Inside file r.bad_at r.bad_count
+  pub counts_in : r.init.count + r.tr.count + r.bad.count + r.k ≤ clauses_most
+  pub init_in : Inside file r.init.at r.init.count
+  pub tr_in : Inside file r.tr.at r.tr.count
+  pub bad_in : Inside file r.bad.at r.bad.count
   pub lemmas_in : Inside file r.lemmas_at r.k
   pub well_formed : WellFormed (problem_at file r)

@@ -4,21 +4,25 @@
 
 ghost use Rattle.std.specs.Prelude.{◌≡◌, ◌+◌, ◌<◌, ◌≤◌, length};
 ghost use Rattle.meaning.specs.File.{two_at, literal_at, kind_row};
-ghost use Rattle.format.specs.Forms.{literal_of, kind_of, signed_number, signed_literal};
+ghost use Rattle.format.specs.Forms.{literal_of, kind_of};
 
-// A problem as it stands in its file: n state variables, m inputs and helpers, k lemmas; and for each of the four kinds of clauses where its
-// first record starts and how many records it has.
+// The records of a kind: where the first starts, and how many they are.
+#[derive(Clone, Copy)]
+pub struct Section {
+    pub at: usize,
+    pub count: usize,
+}
+
+// A problem as it stands in its file: n state variables, m inputs and helpers, k lemmas; and where the records of each of the four kinds of
+// clauses stand. Of the lemmas only the place is given, since k is how many they are, and every contract above calls it k.
 #[derive(Clone, Copy)]
 pub struct Problem {
     pub n: usize,
     pub m: usize,
     pub k: usize,
-    pub init_at: usize,
-    pub init_count: usize,
-    pub tr_at: usize,
-    pub tr_count: usize,
-    pub bad_at: usize,
-    pub bad_count: usize,
+    pub init: Section,
+    pub tr: Section,
+    pub bad: Section,
     pub lemmas_at: usize,
 }
 
@@ -123,49 +127,26 @@ pub enum Literal {
     Neg(usize),
 }
 
-fn wide(x: u8) -> usize
-    ensures { result ≡ x }
-{
-    x as usize
-}
-
 // Two bytes at a place, little-endian.
+#[tactic(auto, unfolding(meaning::specs::File::two_at))]
 pub fn two_at(file: &[u8], at: usize) -> usize
     requires { at + 1 < length file.now }
     ensures { (result ≡ two_at file.now at) × (result < 65536) }
 {
-    wide(file[at]) + 256 * wide(file[at + 1])
+    usize::from(u16::from_le_bytes([file[at], file[at + 1]]))
 }
 
-// A two-byte number read as a signed one.
-fn signed(u: usize) -> i16
-    requires { u < 65536 }
-    ensures { result ≡ signed_number u }
-{
-    if u < 32768 {
-        return u as i16;
-    }
-    -1 - (65535 - u) as i16
-}
-
-// The literal of a signed number: v for a variable, -v for its negation. The range is tested before the number is negated: -32768 has no
-// positive, and its variable is larger than any.
-fn told(x: i16) -> Literal
-    ensures { literal_of result ≡ signed_literal x }
-{
-    if 0 <= x {
-        return Literal::Pos(x as usize);
-    }
-    if x == -32768 {
-        return Literal::Neg(32768);
-    }
-    Literal::Neg((-x) as usize)
-}
-
-// The literal at a place.
+// The literal at a place: v for a variable, -v for its negation. -32768 has no positive of two bytes, and its variable is larger than any.
+#[tactic(auto, using(std::proofs::lemmas::Int::ints), unfolding(meaning::specs::File::literal_at, meaning::specs::File::signed, meaning::specs::File::two_at))]
 pub fn literal_at(file: &[u8], at: usize) -> Literal
     requires { at + 1 < length file.now }
     ensures { literal_of result ≡ literal_at file.now at }
 {
-    told(signed(two_at(file, at)))
+    let x = i16::from_le_bytes([file[at], file[at + 1]]);
+    let v = usize::from(x.unsigned_abs());
+    if x < 0 {
+        Literal::Neg(v)
+    } else {
+        Literal::Pos(v)
+    }
 }

@@ -1,5 +1,5 @@
 -- From a job on a placed problem to the call on its file.
-use Rattle.std.specs.Prelude.{ℕ, ◌≡◌, List, []}
+use Rattle.std.specs.Prelude.{ℕ, ◌≡◌, List, [], Result, Ok, Err}
 use Rattle.std.proofs.Math.Path.{sym, ap}
 use Rattle.std.proofs.Common.{◌∙◌}
 use Rattle.std.proofs.Math.Option.{some}
@@ -10,10 +10,10 @@ use Rattle.meaning.specs.Calls
 use Rattle.meaning.specs.Calls.{Outcome, refusal, on_reading, with_room, listed, largest_job, one_job, list_job}
 use Rattle.format.specs.declared.Problem.{Problem}
 use Rattle.format.specs.Section.{problem_at}
-use Rattle.problem.specs.declared.Checked.{Checked}
-use Rattle.problem.specs.declared.Checked.TheVariants.{Accepted, Refused}
+use Rattle.problem.specs.declared.refusal.Refusal.{Refusal}
 use Rattle.problem.specs.declared.Report.{Report}
 use Rattle.problem.specs.Answers.{reading_of_answer, report_of}
+use Rattle.problem.specs.Refusals.{number_of}
 use Rattle.problem.specs.Held.{length_section}
 use Rattle.sets.specs.Asks.{asks}
 use Rattle.jobs.specs.Outcome.{outcome_of}
@@ -42,21 +42,15 @@ module _ (file : List ℕ) (p : Problem) (budget : ℕ) (lent : List ℕ) where
   list_job_at = sym (ap (λ (n : ℕ). listed n budget (listing (asks file p) n) lent) (k_at file p))
 
 -- the call on a file that is read as an accepted problem, or refused
-module _ (file : List ℕ) (job : Meaning.Problem → List ℕ → Outcome) (lent : List ℕ) (read_as : Checked)
+module _ (file : List ℕ) (job : Meaning.Problem → List ℕ → Outcome) (lent : List ℕ) (read_as : Result Problem Refusal)
     (is : reading_of_answer file read_as ≡ read file) where
-  pub call_accepted : (p : Problem) → read_as ≡ Accepted p → job (problem_at file p) lent ≡ on_reading (read file) job lent
+  pub call_accepted : (p : Problem) → read_as ≡ Ok p → job (problem_at file p) lent ≡ on_reading (read file) job lent
   unfolding on_reading
   call_accepted p e = ap (λ r. on_reading r job lent) (sym (ap (reading_of_answer file) e) ∙ is)
 
-  pub call_refused : (number place : ℕ) (r : Report) → read_as ≡ Refused number place
-      → report_of r ≡ (refusal number place 0 0 []).report → outcome_of r lent ≡ on_reading (read file) job lent
+  pub call_refused : (r : Refusal) (report : Report) → read_as ≡ Err r
+      → report_of report ≡ (refusal (number_of r.rule) r.place 0 0 []).report → outcome_of report lent ≡ on_reading (read file) job lent
   unfolding on_reading refusal
-  call_refused number place r e told =
+  call_refused r report e told =
       ap (λ (x : Calls.Report). record { report = x; lent = lent }) told
       ∙ ap (λ x. on_reading x job lent) (sym (ap (reading_of_answer file) e) ∙ is)
-
--- a refusal that writes nothing
-pub refused_outcome : (number decisions : ℕ) (r : Report) (lent : List ℕ) → report_of r ≡ (refusal number 0 decisions 0 []).report
-    → outcome_of r lent ≡ refusal number 0 decisions 0 lent
-unfolding refusal
-refused_outcome number decisions r lent e = ap (λ (x : Calls.Report). record { report = x; lent = lent }) e

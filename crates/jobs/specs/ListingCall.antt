@@ -1,7 +1,8 @@
 -- The listing of a call: the largest set and its safety, the first node, and the report.
-use Rattle.std.specs.Prelude.{ℕ, suc, ◌≤◌, ◌<◌, ◌≡◌, Bool, true, false, cond, List, replicate, ltb}
+use Rattle.std.specs.Prelude.{ℕ, suc, ◌≤◌, ◌<◌, ◌≡◌, Bool, true, false, cond, List, replicate, ltb, Ok, Err}
 use Rattle.std.proofs.Math.Path.{refl, ap}
 use Rattle.std.proofs.Common.{sym, ap₂, ◌∙◌, arith, lt-ltb, le-ltb}
+use Rattle.std.specs.declared.result.Result.{Result}
 use Rattle.meaning.specs.Meaning
 use Rattle.meaning.specs.Rules.{Question, Answer, Rows, safety, size, counted_on, largest, largest_safety, node, list_if, listing}
 use Rattle.meaning.specs.Calls.{refusal, answered, listed}
@@ -11,41 +12,31 @@ use Rattle.problem.specs.declared.Report.{Report}
 use Rattle.sets.specs.Asks.{marks_at}
 use Rattle.sets.specs.declared.picks.Judged.{Judged}
 use Rattle.rows.specs.declared.found.Progress.{Progress}
-use Rattle.rows.specs.declared.found.Progress.TheVariants.{Going, Spent, Full}
-use Rattle.sets.specs.Judging.{JudgedIs, judged_count, judged_spent, judged_in}
+use Rattle.rows.specs.declared.found.Stop.{Stop}
+use Rattle.rows.specs.declared.found.Stop.TheVariants.{Spent, Full}
+use Rattle.sets.specs.Judging.{JudgedIs, judged_count}
 use Rattle.rows.specs.ListingProgress.{progress_of}
-use Rattle.jobs.specs.Outcome.{outcome_of}
-
--- a report of a number, the decisions and the rows
-abbrev pub reported_as : ℕ → ℕ → ℕ → Report
-reported_as number decisions rows =
-    record { number = number; place = 0; decisions = decisions; rows = rows; n = 0; m = 0; k = 0 }
-
-pub report_refused : (number decisions rows : ℕ) (lent : List ℕ)
-    → outcome_of (reported_as number decisions rows) lent ≡ refusal number 0 decisions rows lent
-unfolding refusal
-report_refused number decisions rows lent = refl
+use Rattle.jobs.specs.Outcome.{outcome_of, reported_as}
 
 -- the report where a listing stands at the end
-abbrev pub report_at : ℕ → Progress → Report
-report_at budget (Going r used) = reported_as 0 used r
-report_at budget (Spent r) = reported_as 10 budget r
-report_at budget (Full r used) = reported_as 12 used r
+abbrev pub report_at : ℕ → Result Progress Stop → Report
+report_at budget (Ok at) = reported_as 0 0 at.used at.rows
+report_at budget (Err (Spent r)) = reported_as 10 0 budget r
+report_at budget (Err (Full at)) = reported_as 12 0 at.used at.rows
 
-pub report_finish : (budget : ℕ) (lent : List ℕ) (s : Progress)
+pub report_finish : (budget : ℕ) (lent : List ℕ) (s : Result Progress Stop)
     → outcome_of (report_at budget s) lent ≡ finish (progress_of budget lent s)
 unfolding finish answered refusal
-report_finish budget lent (Going r used) = refl
-report_finish budget lent (Spent r) = refl
-report_finish budget lent (Full r used) = refl
+report_finish budget lent (Ok at) = refl
+report_finish budget lent (Err (Spent r)) = refl
+report_finish budget lent (Err (Full at)) = refl
 
 -- the node (empty, largest set)
 abbrev first_node : (Meaning.Marks → Question → Answer) → ℕ → Rows
 first_node ask k = node ask (suc (size (largest ask k).marks)) (replicate k false) (largest ask k).marks
 
 -- the call by how its largest set was judged
-module _ (ask : Meaning.Marks → Question → Answer) (k budget : ℕ) (lent : List ℕ) (j : Judged)
-    (is : JudgedIs ask k budget (largest ask k) j) where
+module _ (ask : Meaning.Marks → Question → Answer) (k budget : ℕ) (lent : List ℕ) where
   unsafe_is : (ask (largest ask k).marks safety).sat ≡ true
       → listed k budget (listing ask k) lent
       ≡ cond (ltb budget (judged_count ask (largest ask k))) (refusal 10 0 budget 0 lent)
@@ -62,13 +53,10 @@ module _ (ask : Meaning.Marks → Question → Answer) (k budget : ℕ) (lent : 
       ap (λ (b : Bool). listed k budget (list_if ask b (largest_safety ask k).count (first_node ask k)) lent) e
       ∙ listed_safe k budget (judged_count ask (largest ask k)) (first_node ask k) lent
 
-  pub call_spent : j.spent ≡ true → refusal 10 0 budget 0 lent ≡ listed k budget (listing ask k) lent
+  pub call_spent : budget < judged_count ask (largest ask k) → refusal 10 0 budget 0 lent ≡ listed k budget (listing ask k) lent
   unfolding finish
-  call_spent e = go (ask (largest ask k).marks safety).sat refl
+  call_spent over = go (ask (largest ask k).marks safety).sat refl
     where
-      over : budget < judged_count ask (largest ask k)
-      over = judged_spent ask k budget (largest ask k) j is e
-
       go : (b : Bool) → (ask (largest ask k).marks safety).sat ≡ b → refusal 10 0 budget 0 lent ≡ listed k budget (listing ask k) lent
       go true s =
           sym
@@ -78,29 +66,27 @@ module _ (ask : Meaning.Marks → Question → Answer) (k budget : ℕ) (lent : 
           (lt-ltb budget (judged_count ask (largest ask k)) over))
       go false s = sym (safe_is s ∙ ap finish (feed_over k budget (first_node ask k) 0 (judged_count ask (largest ask k)) lent over))
 
-  module _ (in_time : j.spent ≡ false) where
+  module _ (j : Judged) (is : JudgedIs ask k budget (largest ask k) (Ok j)) where
     pub call_used : j.used ≤ budget
-    call_used = let got = judged_in ask k budget (largest ask k) j is in_time in omega (arith, got.0.used, got.1)
+    call_used = omega (arith, is.0.used, is.1)
 
     -- 11: the largest set isn't safe
     pub call_unsafe : j.safe ≡ false → refusal 11 0 j.used 0 lent ≡ listed k budget (listing ask k) lent
     call_unsafe e =
-        let got = judged_in ask k budget (largest ask k) j is in_time in
         sym
-        (unsafe_is (true_of_not (ask (largest ask k).marks safety).sat (sym got.0.safe ∙ e))
+        (unsafe_is (true_of_not (ask (largest ask k).marks safety).sat (sym is.0.safe ∙ e))
         ∙ ap
         (λ (b : Bool). cond b (refusal 10 0 budget 0 lent) (refusal 11 0 (judged_count ask (largest ask k)) 0 lent))
-        (le-ltb budget (judged_count ask (largest ask k)) got.1)
-        ∙ ap (λ (n : ℕ). refusal 11 0 n 0 lent) (sym got.0.used))
+        (le-ltb budget (judged_count ask (largest ask k)) is.1)
+        ∙ ap (λ (n : ℕ). refusal 11 0 n 0 lent) (sym is.0.used))
 
     -- then the node (empty, largest set)
     pub call_safe : j.safe ≡ true → (fuel : ℕ) (K : Meaning.Marks) → fuel ≡ suc (size (marks_at k j.set)) → K ≡ replicate k false
         → finish (feed k budget (node ask fuel K (marks_at k j.set)) (going 0 j.used lent)) ≡ listed k budget (listing ask k) lent
     call_safe e fuel K enough empty =
-        let got = judged_in ask k budget (largest ask k) j is in_time in
         ap₂ (λ (n : ℕ) (S : Meaning.Marks). finish (feed k budget (node ask n S (marks_at k j.set)) (going 0 j.used lent))) enough empty
         ∙ ap₂
         (λ (A : Meaning.Marks) (n : ℕ). finish (feed k budget (node ask (suc (size A)) (replicate k false) A) (going 0 n lent)))
-        got.0.marks
-        got.0.used
-        ∙ sym (safe_is (false_of_not (ask (largest ask k).marks safety).sat (sym got.0.safe ∙ e)))
+        is.0.marks
+        is.0.used
+        ∙ sym (safe_is (false_of_not (ask (largest ask k).marks safety).sat (sym is.0.safe ∙ e)))

@@ -1,40 +1,26 @@
 // The two marking jobs: any file, any budget, any length of lent bytes.
-ghost use Rattle.std.specs.Prelude.{◌≡◌, ◌≤◌, length, []};
-ghost use Rattle.meaning.specs.Calls.{refusal, largest_call, one_call, largest_job, one_job};
-ghost use Rattle.meaning.specs.Calls;
-ghost use Rattle.format.specs.Section.{Placed, problem_at};
-ghost use Rattle.problem.specs.Answers.{report_of};
-ghost use Rattle.jobs.specs.Outcome.{outcome_of};
-ghost use Rattle.jobs.specs.Leaving.{left_by};
+ghost use Rattle.std.specs.Prelude.{◌≡◌, ◌≤◌, length};
+ghost use Rattle.std.specs.Fn.{FnOnceReturnsAt};
+ghost use Rattle.meaning.specs.File.{read};
+ghost use Rattle.meaning.specs.Calls.{largest_call, one_call, on_reading};
+ghost use Rattle.meaning.specs.Rules;
+ghost use Rattle.sets.specs.Asks.{asks_of};
+ghost use Rattle.jobs.specs.Outcome.{outcome_of, reported_as};
+ghost use Rattle.jobs.specs.Leaving.{Job, left_by, WholeIs, Does};
 
-use format::Problem;
-use problem::{Checked, Report};
+use problem::Report;
 use rows::row::write_row;
+use search::{Asked, Spent};
 use sets::picks::{Judged, largest, single};
 
-// A refusal returns its number, place and decisions and, for a listing, the rows kept, and no n, m or k.
-pub fn refused(number: u32, place: usize, decisions: usize, rows: usize) -> Report
-    ensures { report_of result ≡ (refusal number place decisions rows []).report }
+// What a job returns: its number, 0 where it answered, its place, the decisions counted and, for a listing, the rows kept; no n, m or k.
+pub fn reported(number: u32, place: usize, decisions: u64, rows: usize) -> Report
+    ensures { result ≡ reported_as number place decisions rows }
 {
     Report {
         number,
         place,
-        decisions,
-        rows,
-        n: 0,
-        m: 0,
-        k: 0,
-    }
-}
-
-// Every job also returns the decisions counted and, for a listing, the number of rows.
-pub fn answered(decisions: usize, rows: usize) -> Report
-    ensures { report_of result ≡ (Calls.answered decisions rows []).report }
-{
-    Report {
-        number: 0,
-        place: 0,
-        decisions,
+        decisions: decisions as usize,
         rows,
         n: 0,
         m: 0,
@@ -43,77 +29,65 @@ pub fn answered(decisions: usize, rows: usize) -> Report
 }
 
 // What a marking job leaves: 10 where the budget was used up, 11 where the largest set isn't safe, and else the first k bytes.
-fn leave(x: Judged, k: usize, budget: u32, marks: &mut [u8]) -> Report
-    requires k_bound { k ≤ 128 }
-    requires k_in_bounds { k ≤ length marks.old }
-    ensures { outcome_of result marks.new ≡ left_by k budget x marks.old }
+fn leave(of: &Asked<'_>, found: Result<Judged, Spent>, budget: u32, marks: &mut [u8]) -> Report
+    requires { of.now.problem.k ≤ length marks.old }
+    ensures { outcome_of result marks.new ≡ left_by of.now.problem.k budget found marks.old }
 {
-    let spent = x.spent;
-    if spent {
-        return refused(10, 0, budget as usize, 0);
+    let Ok(x) = found else {
+        return reported(10, 0, u64::from(budget), 0);
+    };
+    if !x.safe {
+        return reported(11, 0, x.used, 0);
     }
-    let used = x.used;
-    let safe = x.safe;
-    if !safe {
-        return refused(11, 0, used as usize, 0);
-    }
-    let set = x.set;
-    write_row(marks, set, k);
-    answered(used as usize, 0)
+    write_row(marks, x.set, of.problem.k);
+    reported(0, 0, x.used, 0)
 }
 
-fn largest_of(file: &[u8], p: Problem, budget: u32, marks: &mut [u8]) -> Report
-    requires { Placed file.now p }
-    ensures { outcome_of result marks.new ≡ largest_job budget (problem_at file.now p) marks.old }
+// A marking job: 9 where the lent bytes are fewer than k, and else what was found for the problem that stands in the file.
+fn marked<F: FnOnce(&Asked<'_>) -> Result<Judged, Spent>>(
+    file: &[u8],
+    budget: u32,
+    marks: &mut [u8],
+    find: F,
+) -> Report
+    requires { F.IsAlwaysCallable find }
+    ensures { (job : Job) → Does budget marks.old job (FnOnceReturnsAt F.FnOnce find) → outcome_of result marks.new ≡ on_reading (read file.now) job marks.old }
 {
-    let k = p.k;
-    if marks.len() < k {
-        return refused(9, 0, 0, 0);
+    let read = problem::read_problem(file);
+    match read {
+        Ok(problem) => {
+            if marks.len() < problem.k {
+                return reported(9, 0, 0, 0);
+            }
+            let of = Asked { file, problem };
+            leave(&of, find(&of), budget, marks)
+        }
+        Err(r) => Report::from(r),
     }
-    let r = largest(file, p, budget as u64);
-    let set = r.set;
-    leave(
-        Judged {
-            set,
-            used: r.used,
-            safe: true,
-            spent: r.spent,
-        },
-        k,
-        budget,
-        marks,
-    )
 }
 
-fn one_of(file: &[u8], p: Problem, budget: u32, marks: &mut [u8]) -> Report
-    requires { Placed file.now p }
-    ensures { outcome_of result marks.new ≡ one_job budget (problem_at file.now p) marks.old }
+// The largest set, whose safety is not asked and doesn't count.
+fn whole(of: &Asked<'_>, budget: u32) -> Result<Judged, Spent>
+    ensures { WholeIs of.now.problem.k budget (Rules.largest (asks_of of.now) of.now.problem.k) result }
 {
-    let k = p.k;
-    if marks.len() < k {
-        return refused(9, 0, 0, 0);
-    }
-    leave(single(file, p, budget as u64), k, budget, marks)
+    let top = largest(of, u64::from(budget))?;
+    Ok(Judged {
+        set: top.set,
+        used: top.used,
+        safe: true,
+    })
 }
 
 // Mark the largest inductive subset.
 pub fn mark_largest(file: &[u8], budget: u32, marks: &mut [u8]) -> Report
     ensures { outcome_of result marks.new ≡ largest_call file.now budget marks.old }
 {
-    let read = problem::read_problem(file);
-    match read {
-        Checked::Accepted(p) => largest_of(file, p, budget, marks),
-        Checked::Refused(number, place) => refused(number, place, 0, 0),
-    }
+    marked(file, budget, marks, |of| whole(of, budget))
 }
 
 // Mark one minimal safe inductive subset.
 pub fn mark_one(file: &[u8], budget: u32, marks: &mut [u8]) -> Report
     ensures { outcome_of result marks.new ≡ one_call file.now budget marks.old }
 {
-    let read = problem::read_problem(file);
-    match read {
-        Checked::Accepted(p) => one_of(file, p, budget, marks),
-        Checked::Refused(number, place) => refused(number, place, 0, 0),
-    }
+    marked(file, budget, marks, |of| single(of, u64::from(budget)))
 }

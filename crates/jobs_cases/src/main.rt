@@ -5,60 +5,77 @@
 use problem::Report;
 use std::io;
 
-fn number(rt: &HostRuntime, x: usize) -> io::Result<()> {
-    print!(rt; " {x}")
-}
-
-fn show(rt: &HostRuntime, name: &str, r: Report, a: u8, b: u8) -> io::Result<()> {
-    print!(rt; "{name}")?;
-    number(rt, r.number as usize)?;
-    number(rt, r.place)?;
-    number(rt, r.decisions)?;
-    number(rt, r.rows)?;
-    print!(rt; ":")?;
-    number(rt, a as usize)?;
-    number(rt, b as usize)?;
-    println!(rt; "")
-}
-
-fn largest(rt: &HostRuntime, name: &str, file: &[u8]) -> io::Result<()> {
+fn run<F: FnOnce(&[u8], u32, &mut [u8]) -> Report>(
+    rt: &HostRuntime,
+    name: &str,
+    file: &[u8],
+    job: F,
+) -> io::Result<()>
+    requires { F.IsAlwaysCallable job }
+{
     let mut lent = [7u8; 2];
-    let r = jobs::mark_largest(file, 1000, &mut lent);
-    show(rt, name, r, lent[0], lent[1])
-}
-
-fn one(rt: &HostRuntime, name: &str, file: &[u8]) -> io::Result<()> {
-    let mut lent = [7u8; 2];
-    let r = jobs::mark_one(file, 1000, &mut lent);
-    show(rt, name, r, lent[0], lent[1])
-}
-
-fn list(rt: &HostRuntime, name: &str, file: &[u8]) -> io::Result<()> {
-    let mut lent = [7u8; 2];
-    let r = jobs::list_all(file, 1000, &mut lent);
-    show(rt, name, r, lent[0], lent[1])
+    let r = job(file, 1000, &mut lent);
+    println!(rt;
+        "{name} {} {} {} {}: {} {}",
+        r.number, r.place, r.decisions, r.rows, lent[0], lent[1]
+    )
 }
 
 fn main(rt: HostRuntime) -> io::Result<()> {
     let k =
         b"\x04\x00\x01\x00\x01\x00\x00\x00\x02\x00\x02\x00\x01\x00\x02\x00\x02\x00\xff\xff\x04\x00\x03\x00\xfe\xff\x01\x00\x04\x00\x03\x00\x02\x00\xff\xff\x02\x00\x04\x00\xff\xff\x00\x00\x05\x00\x00\x00\x06\x00";
-    largest(&rt, "K largest", k)?;
-    one(&rt, "K one", k)?;
-    list(&rt, "K list", k)?;
+    run(
+        &rt,
+        "K largest",
+        k,
+        |f, n, lent| jobs::mark_largest(f, n, lent),
+    )?;
+    run(&rt, "K one", k, |f, n, lent| jobs::mark_one(f, n, lent))?;
+    run(&rt, "K list", k, |f, n, lent| jobs::list_all(f, n, lent))?;
     let l =
         b"\x04\x00\x01\x00\x01\x00\x00\x00\x02\x00\x02\x00\x01\x00\x04\x00\x03\x00\xfe\xff\x01\x00\x04\x00\x03\x00\x02\x00\xff\xff\x02\x00\x04\x00\xff\xff\x02\x00\x05\x00\x01\x00\x00\x00\x06\x00";
-    largest(&rt, "L largest", l)?;
-    one(&rt, "L one", l)?;
-    list(&rt, "L list", l)?;
+    run(
+        &rt,
+        "L largest",
+        l,
+        |f, n, lent| jobs::mark_largest(f, n, lent),
+    )?;
+    run(&rt, "L one", l, |f, n, lent| jobs::mark_one(f, n, lent))?;
+    run(&rt, "L list", l, |f, n, lent| jobs::list_all(f, n, lent))?;
     let cut =
         b"\x04\x00\x01\x00\x01\x00\x00\x00\x02\x00\x02\x00\x01\x00\x04\x00\x03\x00\xfe\xff\x01\x00\x04\x00\x03\x00\x02\x00\xff\xff\x02\x00\x04\x00\xff\xff\x02\x00\x05\x00\x01\x00\x00\x00\x06";
-    one(&rt, "L cut one", cut)?;
-    list(&rt, "L cut list", cut)?;
+    run(
+        &rt,
+        "L cut one",
+        cut,
+        |f, n, lent| jobs::mark_one(f, n, lent),
+    )?;
+    run(
+        &rt,
+        "L cut list",
+        cut,
+        |f, n, lent| jobs::list_all(f, n, lent),
+    )?;
     let longer =
         b"\x04\x00\x01\x00\x01\x00\x00\x00\x02\x00\x02\x00\x01\x00\x04\x00\x03\x00\xfe\xff\x01\x00\x04\x00\x03\x00\x02\x00\xff\xff\x02\x00\x04\x00\xff\xff\x02\x00\x05\x00\x01\x00\x00\x00\x06\x00\x00";
-    one(&rt, "L longer one", longer)?;
-    list(&rt, "L longer list", longer)?;
+    run(
+        &rt,
+        "L longer one",
+        longer,
+        |f, n, lent| jobs::mark_one(f, n, lent),
+    )?;
+    run(
+        &rt,
+        "L longer list",
+        longer,
+        |f, n, lent| jobs::list_all(f, n, lent),
+    )?;
     let least = b"\x04\x00\x01\x00\x01\x00\x00\x00\x02\x00\x05\x00\x00\x80\x00\x00\x06\x00";
-    one(&rt, "M -32768 one", least)?;
+    run(
+        &rt,
+        "M -32768 one",
+        least,
+        |f, n, lent| jobs::mark_one(f, n, lent),
+    )?;
     Ok(())
 }

@@ -2,7 +2,7 @@
 use Prim.Native.Nat.{ℕ, zero, suc, ◌+◌, ◌≤◌, ◌<◌, max}
 use native.Mathlib.Omega.{arith}
 use Rattle.std.proofs.Math.Nat.{zero-add}
-use Rattle.std.specs.Prelude.{◌≡◌, Bool, ◌&&◌, List, [], ◌∷◌, leb}
+use Rattle.std.specs.Prelude.{◌≡◌, Bool, ◌&&◌, List, [], ◌∷◌, leb, Option, Some, None, Result, Ok, Err}
 use Rattle.std.proofs.Math.Path.{refl, ap}
 use Rattle.std.proofs.Common.{sym, ap₂, ◌∙◌}
 use Rattle.std.proofs.Math.Bool.{true, false, cond}
@@ -12,10 +12,11 @@ use Rattle.meaning.specs.Clauses.{Clause}
 use Rattle.meaning.specs.Lines.{line_at, ended, next_line, words}
 use Rattle.meaning.specs.LemmaText as Text
 use Rattle.meaning.specs.LemmaText.{wrong, right, lemma_right, lemma_of, lemma_and, if_lemma, unless_end, lemmas_from}
-use Rattle.laws.specs.Basics.{and_left, nonzero}
+use Rattle.laws.specs.Basics.{and_left}
+use Rattle.lines.specs.declared.fault.Fault.{Fault}
 use Rattle.lemma_text.specs.declared.Lemmas.{Lemmas}
 use Rattle.lemma_text.specs.declared.line.Line.{Line}
-use Rattle.lemma_text.specs.Line.{good_line, lemma_at, no_line, line_from}
+use Rattle.lemma_text.specs.Line.{good_line, lemma_at, line_from}
 
 -- ---- what is told
 
@@ -25,9 +26,9 @@ longest [] = 0
 longest (c ∷ cs) = max (length c) (longest cs)
 
 -- the place of the fault; or how many lemmas there are, and how long the longest is
-unfoldable pub summary_of : Text.Lemmas → Lemmas
-summary_of (wrong at) = record { fault = true; at = at; count = 0; longest = 0 }
-summary_of (right cs) = record { fault = false; at = 0; count = length cs; longest = longest cs }
+unfoldable pub summary_of : Text.Lemmas → Result Lemmas Fault
+summary_of (wrong at) = Err (record { at = at })
+summary_of (right cs) = Ok (record { count = length cs; longest = longest cs })
 
 -- the lemmas, where there is no fault
 unfoldable pub lemmas_of : Text.Lemmas → List Clause
@@ -35,12 +36,12 @@ lemmas_of (wrong at) = []
 lemmas_of (right cs) = cs
 
 -- the same after so many lemmas, of which the longest has so many literals
-unfoldable pub summary_on : ℕ → ℕ → Text.Lemmas → Lemmas
-summary_on n most (wrong at) = record { fault = true; at = at; count = 0; longest = 0 }
-summary_on n most (right cs) = record { fault = false; at = 0; count = n + length cs; longest = max most (longest cs) }
+unfoldable pub summary_on : ℕ → ℕ → Text.Lemmas → Result Lemmas Fault
+summary_on n most (wrong at) = Err (record { at = at })
+summary_on n most (right cs) = Ok (record { count = n + length cs; longest = max most (longest cs) })
 
 told : (a b c d : ℕ) → a ≡ b → c ≡ d
-    → ◌≡◌ {A = Lemmas} (record { fault = false; at = 0; count = a; longest = c }) (record { fault = false; at = 0; count = b; longest = d })
+    → ◌≡◌ {A = Result Lemmas Fault} (Ok (record { count = a; longest = c })) (Ok (record { count = b; longest = d }))
 told a b c d e f = rw (e, f)
 
 pub summary_start : (l : Text.Lemmas) → summary_of l ≡ summary_on 0 0 l
@@ -104,49 +105,48 @@ module _ (most : ℕ) (text : List ℕ) (at : ℕ) where
 
 -- ---- a line as it was read
 
-module _ (most : ℕ) (text : List ℕ) (at : ℕ) (r : Line) (is : r ≡ line_from most text 0 at) where
-  pub read_bad : r.past ≡ 0 → good_line most text at ≡ false
-  unfolding line_from next_line
-  read_bad h = go (good_line most text at) is
+module _ (most : ℕ) (text : List ℕ) (at : ℕ) where
+  pub read_bad : None ≡ line_from most text 0 at → good_line most text at ≡ false
+  unfolding line_from
+  read_bad e = go (good_line most text at) e
     where
-      go : (t : Bool) → r ≡ cond t (record { past = next_line text at; count = 0 + length (lemma_at text at) }) no_line → t ≡ false
-      go true e = absurd (nonzero (at + length (line_at text at)) (sym (ap (λ (l : Line). l.past) e) ∙ h))
+      go : (t : Bool) → ◌≡◌ {A = Option Line} None (cond t (Some (record { past = next_line text at; count = 0 + length (lemma_at text at) })) None) → t ≡ false
+      go true e = cc
       go false e = refl
 
-  pub read_good : (r.past ≡ 0 → ⊥)
-      → (good_line most text at ≡ true) × (r.past ≡ next_line text at) × (r.count ≡ length (lemma_at text at))
-  unfolding line_from no_line
-  read_good h = go (good_line most text at) is
-    where
-      go : (t : Bool) → r ≡ cond t (record { past = next_line text at; count = 0 + length (lemma_at text at) }) no_line
-          → (t ≡ true) × (r.past ≡ next_line text at) × (r.count ≡ length (lemma_at text at))
-      go true e = (refl, ap (λ (l : Line). l.past) e, ap (λ (l : Line). l.count) e ∙ zero-add (length (lemma_at text at)))
-      go false e = absurd (h (ap (λ (l : Line). l.past) e))
+  module _ (r : Line) (is : Some r ≡ line_from most text 0 at) where
+    pub read_good : (good_line most text at ≡ true) × (r.past ≡ next_line text at) × (r.count ≡ length (lemma_at text at))
+    unfolding line_from
+    read_good = go (good_line most text at) is
+      where
+        go : (t : Bool) → ◌≡◌ {A = Option Line} (Some r) (cond t (Some (record { past = next_line text at; count = 0 + length (lemma_at text at) })) None)
+            → (t ≡ true) × (r.past ≡ next_line text at) × (r.count ≡ length (lemma_at text at))
+        go true e = (refl, cc, cc (zero-add (length (lemma_at text at))))
+        go false e = cc
 
-  module _ (some : r.past ≡ 0 → ⊥) where
     pub read_past : (r.past ≤ length text) × (at < r.past)
     read_past =
-        let g = read_good some in
+        let g = read_good in
         let n = good_next most text at g.0 in
         (omega (arith, g.1, n.0), omega (arith, g.1, n.1))
 
     pub read_more : (n top : ℕ) → at < length text
         → summary_on n top (lemmas_on most text at) ≡ summary_on (n + 1) (max top r.count) (lemmas_on most text r.past)
     read_more n top inside =
-        let g = read_good some in
+        let g = read_good in
         ap (summary_on n top) (good_on most text at inside g.0)
         ∙ summary_more n top (lemma_at text at) (lemmas_on most text (next_line text at))
         ∙ ap₂ (λ (k p : ℕ). summary_on (n + 1) (max top k) (lemmas_on most text p)) (sym g.2) (sym g.1)
 
 -- a line at fault, and the end of the text
-pub told_fault : (most : ℕ) (text : List ℕ) (at : ℕ) (r : Line) → r ≡ line_from most text 0 at → r.past ≡ 0 → (n top : ℕ)
-    → at < length text → summary_on n top (lemmas_on most text at) ≡ summary_of (wrong at)
-unfolding summary_on summary_of
-told_fault most text at r is none n top inside =
-    ap (summary_on n top) (bad_on most text at inside (read_bad most text at r is none))
+pub told_fault : (most : ℕ) (text : List ℕ) (at : ℕ) → None ≡ line_from most text 0 at → (n top : ℕ) → at < length text
+    → summary_on n top (lemmas_on most text at) ≡ Err (record { at = at })
+unfolding summary_on
+told_fault most text at none n top inside =
+    ap (summary_on n top) (bad_on most text at inside (read_bad most text at none))
 
 pub told_end : (most : ℕ) (text : List ℕ) (at n top : ℕ) → length text ≤ at
-    → summary_on n top (lemmas_on most text at) ≡ record { fault = false; at = 0; count = n; longest = top }
+    → summary_on n top (lemmas_on most text at) ≡ Ok (record { count = n; longest = top })
 unfolding summary_on longest
 told_end most text at n top h =
     ap (summary_on n top) (no_more most text at h) ∙ told (n + 0) n (max top 0) top (omega arith) (omega arith)

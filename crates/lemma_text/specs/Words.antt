@@ -13,9 +13,9 @@ use Rattle.meaning.specs.Built.{literal_if}
 use Rattle.meaning.specs.Lines.{newline, space, line_at, ended, next_line, with_first, words, is_empty, is_digit, is_number, decimal}
 use Rattle.meaning.specs.LemmaText.{has_minus, unsigned, latch_right, is_zero, latch_literal}
 use Rattle.laws.specs.Basics.{bool_cases, and_left}
-use Rattle.lines.specs.declared.number.Number.{Number}
-use Rattle.lines.specs.Numbers.{digits_of, span, Stands}
-use Rattle.lines.specs.Past.{long, line_byte, ended_byte, next_byte, first_word, words_digits, no_digit_after, line_number, number_cut, words_last, ended_last, next_last, words_space, ended_space, next_space}
+use Rattle.lines.specs.Digits.{digits_of}
+use Rattle.lemma_text.specs.declared.line.Word.{Word}
+use Rattle.lines.specs.Past.{line_byte, ended_byte, next_byte, first_word, words_digits, no_digit_after, line_number, number_cut, words_last, ended_last, next_last, words_space, ended_space, next_space}
 
 -- the byte at a place is a '-'
 unfoldable pub minus_at : List ℕ → ℕ → Bool
@@ -30,19 +30,10 @@ with_sign true w = 45 ∷ w
 with_sign false w = w
 
 -- x is all digits that follow, at a place, a '-' or none
-pub record WordAt (text : List ℕ) (at : ℕ) (x : Number) : Type 0 where
-  pub stands : Stands text x
+pub record WordAt (text : List ℕ) (at : ℕ) (x : Word) : Type 0 where
   pub start : x.start ≡ digits_start text at
-  pub whole : span text x ≡ digits_of (drop (digits_start text at) text)
-
-pub word_at : (text : List ℕ) (at s : ℕ) (x : Number) → s ≡ digits_start text at → Stands text x → x.start ≡ s
-    → span text x ≡ digits_of (drop s text) → WordAt text at x
-word_at text at s x is stands start whole =
-    record {
-      stands = stands;
-      start = start ∙ is;
-      whole = whole ∙ ap (λ (k : ℕ). digits_of (drop k text)) is;
-    }
+  pub inside : x.start + length x.number.digits.now ≤ length text
+  pub whole : x.number.digits.now ≡ digits_of (drop x.start text)
 
 pub start_minus : (text : List ℕ) (at : ℕ) → get_or text at 0 ≡ 45 → at + 1 ≡ digits_start text at
 unfolding digits_start minus_at
@@ -163,7 +154,10 @@ module _ (text : List ℕ) (at : ℕ) where
 
 -- ---- a word, and the byte after it
 
-module _ (text : List ℕ) (at : ℕ) (x : Number) (w : WordAt text at x) where
+module _ (text : List ℕ) (at : ℕ) (x : Word) (w : WordAt text at x) where
+  from_start : words (line_at text (digits_start text at)) ≡ words (line_at text x.start)
+  from_start = ap (λ (k : ℕ). words (line_at text k)) (sym w.start)
+
   -- it has a sign exactly if its digits start later
   pub sign_before : ltb at x.start ≡ minus_at text at
   unfolding digits_start
@@ -173,72 +167,71 @@ module _ (text : List ℕ) (at : ℕ) (x : Number) (w : WordAt text at x) where
       go true = lt-ltb at (at + 1) (omega arith)
       go false = le-ltb at at (omega arith)
 
-  pub word_rises : at ≤ x.end
+  pub word_rises : at ≤ (x.start + length x.number.digits.now)
   unfolding digits_start
   word_rises = go (minus_at text at) w.start
     where
-      go : (t : Bool) → x.start ≡ cond t (at + 1) at → at ≤ x.end
-      go true e = omega (arith, e, w.stands.rises)
-      go false e = omega (arith, e, w.stands.rises)
+      go : (t : Bool) → x.start ≡ cond t (at + 1) at → at ≤ (x.start + length x.number.digits.now)
+      go true e = omega (arith, e)
+      go false e = omega (arith, e)
 
   -- its digits start with no '-'
-  pub plain_span : has_minus (span text x) ≡ false
+  pub plain_span : has_minus x.number.digits.now ≡ false
   unfolding has_minus
   plain_span =
-      ap has_minus (sym (append-nil (span text x))) ∙ no_minus (span text x) [] w.stands.digits (λ e. refl)
+      ap has_minus (sym (append-nil x.number.digits.now)) ∙ no_minus x.number.digits.now [] x.number.digital (λ e. refl)
 
-  pub word_cut : length text ≤ x.end → ended text at ≡ false
-  word_cut h = sign_ended text at ∙ number_cut text (digits_start text at) x w.stands w.start w.whole h
+  pub word_cut : length text ≤ (x.start + length x.number.digits.now) → ended text at ≡ false
+  word_cut h = sign_ended text at ∙ ap (ended text) (sym w.start) ∙ number_cut text x.start x.number w.whole h
 
-  module _ (inside : x.end < length text) where
-    module _ (is : get_or text x.end 0 ≡ newline) where
-      pub word_last : words (line_at text at) ≡ (with_sign (minus_at text at) (span text x) ∷ [])
+  module _ (inside : (x.start + length x.number.digits.now) < length text) where
+    module _ (is : get_or text (x.start + length x.number.digits.now) 0 ≡ newline) where
+      pub word_last : words (line_at text at) ≡ (with_sign (minus_at text at) x.number.digits.now ∷ [])
       word_last =
-          sign_words text at (span text x) [] (words_last text (digits_start text at) x w.stands w.start w.whole inside is)
+          sign_words text at x.number.digits.now [] (from_start ∙ words_last text x.start x.number w.whole inside is)
 
       pub word_last_ended : ended text at ≡ true
-      word_last_ended = sign_ended text at ∙ ended_last text (digits_start text at) x w.stands w.start w.whole inside is
+      word_last_ended = sign_ended text at ∙ ap (ended text) (sym w.start) ∙ ended_last text x.start x.number w.whole inside is
 
-      pub word_last_next : next_line text at ≡ x.end + 1
-      word_last_next = sign_next text at ∙ next_last text (digits_start text at) x w.stands w.start w.whole inside is
+      pub word_last_next : next_line text at ≡ (x.start + length x.number.digits.now) + 1
+      word_last_next = sign_next text at ∙ ap (next_line text) (sym w.start) ∙ next_last text x.start x.number w.whole inside is
 
-    module _ (is : get_or text x.end 0 ≡ space) where
-      pub word_space : words (line_at text at) ≡ (with_sign (minus_at text at) (span text x) ∷ words (line_at text (x.end + 1)))
+    module _ (is : get_or text (x.start + length x.number.digits.now) 0 ≡ space) where
+      pub word_space : words (line_at text at) ≡ (with_sign (minus_at text at) x.number.digits.now ∷ words (line_at text ((x.start + length x.number.digits.now) + 1)))
       word_space =
-          sign_words text at (span text x) (words (line_at text (x.end + 1)))
-          (words_space text (digits_start text at) x w.stands w.start w.whole inside is)
+          sign_words text at x.number.digits.now (words (line_at text ((x.start + length x.number.digits.now) + 1)))
+          (from_start ∙ words_space text x.start x.number w.whole inside is)
 
-      pub word_space_ended : ended text at ≡ ended text (x.end + 1)
-      word_space_ended = sign_ended text at ∙ ended_space text (digits_start text at) x w.stands w.start w.whole inside is
+      pub word_space_ended : ended text at ≡ ended text ((x.start + length x.number.digits.now) + 1)
+      word_space_ended = sign_ended text at ∙ ap (ended text) (sym w.start) ∙ ended_space text x.start x.number w.whole inside is
 
-      pub word_space_next : next_line text at ≡ next_line text (x.end + 1)
-      word_space_next = sign_next text at ∙ next_space text (digits_start text at) x w.stands w.start w.whole inside is
+      pub word_space_next : next_line text at ≡ next_line text ((x.start + length x.number.digits.now) + 1)
+      word_space_next = sign_next text at ∙ ap (next_line text) (sym w.start) ∙ next_space text x.start x.number w.whole inside is
 
     -- another byte spoils the word
-    pub word_other : (get_or text x.end 0 ≡ newline → ⊥) → (get_or text x.end 0 ≡ space → ⊥)
+    pub word_other : (get_or text (x.start + length x.number.digits.now) 0 ≡ newline → ⊥) → (get_or text (x.start + length x.number.digits.now) 0 ≡ space → ⊥)
         → (u : List ℕ) × (ws : List (List ℕ)) × (words (line_at text at) ≡ (with_sign (minus_at text at) u ∷ ws))
         × (is_number u ≡ false) × (minus_at text at ≡ false → has_minus u ≡ false)
     unfolding words with_first has_minus minus_at digits_start
     word_other not_newline not_space =
-        let b = get_or text x.end 0 in
-        let s = digits_start text at in
-        let on = first_word (line_at text (suc x.end)) in
-        let line = line_byte text x.end inside not_newline in
-        let here : words (line_at text x.end) ≡ ((b ∷ on.0) ∷ on.1) =
+        let b = get_or text (x.start + length x.number.digits.now) 0 in
+        let s = x.start in
+        let on = first_word (line_at text (suc (x.start + length x.number.digits.now))) in
+        let line = line_byte text (x.start + length x.number.digits.now) inside not_newline in
+        let here : words (line_at text (x.start + length x.number.digits.now)) ≡ ((b ∷ on.0) ∷ on.1) =
         ap words line ∙ rw (ne_eqb b space not_space) (ap (with_first b) on.2) in
         let is =
-        ap words (line_number text s x w.stands w.start w.whole)
-        ∙ words_digits (span text x) (line_at text x.end) (b ∷ on.0) on.1 w.stands.digits here in (
-          span text x ++ (b ∷ on.0),
+        ap words (line_number text s x.number w.whole)
+        ∙ words_digits x.number.digits.now (line_at text (x.start + length x.number.digits.now)) (b ∷ on.0) on.1 x.number.digital here in (
+          x.number.digits.now ++ (b ∷ on.0),
           on.1,
-          sign_words text at (span text x ++ (b ∷ on.0)) on.1 is,
-          spoiled (span text x) b on.0 (no_digit_after text s x w.stands w.start w.whole inside),
-          λ t. no_minus (span text x) (b ∷ on.0) w.stands.digits (λ e. no_second t e),
+          sign_words text at (x.number.digits.now ++ (b ∷ on.0)) on.1 (from_start ∙ is),
+          spoiled x.number.digits.now b on.0 (no_digit_after text s x.number w.whole inside),
+          λ t. no_minus x.number.digits.now (b ∷ on.0) x.number.digital (λ e. no_second t e),
         )
       where
-        no_second : minus_at text at ≡ false → span text x ≡ [] → eqb (get_or text x.end 0) 45 ≡ false
+        no_second : minus_at text at ≡ false → x.number.digits.now ≡ [] → eqb (get_or text (x.start + length x.number.digits.now) 0) 45 ≡ false
         no_second t e =
             let none : digits_start text at ≡ at = rw t in
-            let place : x.end ≡ at =
-            omega (arith, long text (digits_start text at) x w.stands w.start w.whole, ap length e, none) in
+            let place : x.start + length x.number.digits.now ≡ at = omega (arith, w.start, ap length e, none) in
             ap (λ (k : ℕ). eqb (get_or text k 0) 45) place ∙ t

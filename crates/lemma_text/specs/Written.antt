@@ -1,6 +1,6 @@
 -- The literals of a line, as they are written word by word.
 use Rattle.std.specs.Prelude.{ℕ, ◌+◌, ◌≤◌, ◌<◌, ◌≡◌, refl, ◌⊎◌, true, false, List, [], ◌++◌, length, get_or, ltb, leb, eqb}
-use Rattle.std.proofs.Common.{arith, subst, ◌∙◌, inl, inr, length-append}
+use Rattle.std.proofs.Common.{arith, ◌∙◌, inl, inr}
 use Rattle.std.proofs.Math.Path.{sym, ap, ap₂}
 use borrow.Author.Tests.{ltb-true, ltb-false, leb-true, eqb-true, eqb-false}
 use Rattle.meaning.specs.Clauses.{Literal, pos, neg}
@@ -10,10 +10,12 @@ use Rattle.meaning.specs.Lines.{newline, space}
 use Rattle.meaning.specs.LemmaText.{latch_literal}
 use Rattle.meaning.specs.Filed.{two, literal_bytes, clause_bytes}
 use Rattle.laws.specs.Basics.{bool_cases, not_both, and_left, and_right}
-use Rattle.lines.specs.declared.number.Number.{Number}
-use Rattle.lines.specs.Numbers.{huge, span, worth}
+use Rattle.lines.specs.Digits.{huge}
+use Rattle.lines.specs.Numbers.{worth}
+use Rattle.lemma_text.specs.declared.line.Word.{Word}
 use Rattle.lines.specs.Literals.{value_below}
-use Rattle.records.specs.Put.{put, put_put, put_none, length_put}
+use Rattle.records.specs.declared.Records.{Records}
+use Rattle.records.specs.Puts.{HasRoom}
 use Rattle.lemma_text.specs.Words.{WordAt, minus_at, with_sign, latch_literal_is, sign_before, plain_span}
 use Rattle.lemma_text.specs.Line.{good_line, lemma_at, bad_cut, bad_other, bad_empty, bad_latch, last_none, lemma_first, good_space}
 
@@ -28,62 +30,62 @@ unfoldable pub lemma_bytes : List ℕ → ℕ → List ℕ
 lemma_bytes text at = clause_bytes (lemma_at text at)
 
 -- a word that is not the last of a line: its literal, and the rest of the line
-pub record LiteralAt (text : List ℕ) (at : ℕ) (x : Number) : Type 0 where
-  pub low : 1 ≤ x.value
-  pub high : x.value ≤ 32767
-  pub next : Writable text (x.end + 1)
-  pub bytes : lemma_bytes text at ≡ literal_bytes (literal_if (ltb at x.start) x.value) ++ lemma_bytes text (x.end + 1)
+pub record LiteralAt (text : List ℕ) (at : ℕ) (x : Word) : Type 0 where
+  pub low : 1 ≤ x.number.value
+  pub high : x.number.value ≤ 32767
+  pub next : Writable text ((x.start + length x.number.digits.now) + 1)
+  pub bytes : lemma_bytes text at ≡ literal_bytes (literal_if (ltb at x.start) x.number.value) ++ lemma_bytes text ((x.start + length x.number.digits.now) + 1)
 
-module _ (text : List ℕ) (at : ℕ) (x : Number) (w : WordAt text at x) (g : Writable text at) where
-  pub byte_after : x.end < length text
-  byte_after = go (bool_cases (ltb x.end (length text)))
+module _ (text : List ℕ) (at : ℕ) (x : Word) (w : WordAt text at x) (g : Writable text at) where
+  pub byte_after : (x.start + length x.number.digits.now) < length text
+  byte_after = go (bool_cases (ltb (x.start + length x.number.digits.now) (length text)))
     where
-      go : (ltb x.end (length text) ≡ true) ⊎ (ltb x.end (length text) ≡ false) → x.end < length text
-      go (inl t) = ltb-true x.end (length text) t
-      go (inr t) = absurd (not_both g.good (bad_cut g.most text at x w (ltb-false x.end (length text) t)))
+      go : (ltb (x.start + length x.number.digits.now) (length text) ≡ true) ⊎ (ltb (x.start + length x.number.digits.now) (length text) ≡ false) → (x.start + length x.number.digits.now) < length text
+      go (inl t) = ltb-true (x.start + length x.number.digits.now) (length text) t
+      go (inr t) = absurd (not_both g.good (bad_cut g.most text at x w (ltb-false (x.start + length x.number.digits.now) (length text) t)))
 
-  pub bytes_last : get_or text x.end 0 ≡ newline → lemma_bytes text at ≡ []
+  pub bytes_last : get_or text (x.start + length x.number.digits.now) 0 ≡ newline → lemma_bytes text at ≡ []
   unfolding lemma_bytes clause_bytes
   bytes_last is = ap clause_bytes (last_none g.most text at x w byte_after is)
 
-  module _ (other : get_or text x.end 0 ≡ newline → ⊥) where
+  module _ (other : get_or text (x.start + length x.number.digits.now) 0 ≡ newline → ⊥) where
     small : g.most < huge
     small = omega (arith, g.few)
 
-    a_space : get_or text x.end 0 ≡ space
-    a_space = go (bool_cases (eqb (get_or text x.end 0) space))
+    a_space : get_or text (x.start + length x.number.digits.now) 0 ≡ space
+    a_space = go (bool_cases (eqb (get_or text (x.start + length x.number.digits.now) 0) space))
       where
-        go : (eqb (get_or text x.end 0) space ≡ true) ⊎ (eqb (get_or text x.end 0) space ≡ false) → get_or text x.end 0 ≡ space
-        go (inl t) = eqb-true (get_or text x.end 0) space t
+        go : (eqb (get_or text (x.start + length x.number.digits.now) 0) space ≡ true) ⊎ (eqb (get_or text (x.start + length x.number.digits.now) 0) space ≡ false) → get_or text (x.start + length x.number.digits.now) 0 ≡ space
+        go (inl t) = eqb-true (get_or text (x.start + length x.number.digits.now) 0) space t
         go (inr t) =
             absurd
-            (not_both g.good (bad_other g.most text at x w byte_after other (eqb-false (get_or text x.end 0) space t)))
+            (not_both g.good (bad_other g.most text at x w byte_after other (eqb-false (get_or text (x.start + length x.number.digits.now) 0) space t)))
 
-    some : x.end ≡ x.start → ⊥
+    some : length x.number.digits.now ≡ 0 → ⊥
     some e = not_both g.good (bad_empty g.most text at x w byte_after e)
 
-    a_latch : between 1 g.most x.value ≡ true
-    a_latch = go (bool_cases (between 1 g.most x.value))
+    a_latch : between 1 g.most x.number.value ≡ true
+    a_latch = go (bool_cases (between 1 g.most x.number.value))
       where
-        go : (between 1 g.most x.value ≡ true) ⊎ (between 1 g.most x.value ≡ false) → between 1 g.most x.value ≡ true
+        go : (between 1 g.most x.number.value ≡ true) ⊎ (between 1 g.most x.number.value ≡ false) → between 1 g.most x.number.value ≡ true
         go (inl t) = t
         go (inr t) = absurd (not_both g.good (bad_latch g.most text at x w byte_after a_space some small t))
 
-    value_low : 1 ≤ x.value
+    value_low : 1 ≤ x.number.value
     unfolding between
-    value_low = leb-true 1 x.value (and_left (leb 1 x.value) (leb x.value g.most) a_latch)
+    value_low = leb-true 1 x.number.value (and_left (leb 1 x.number.value) (leb x.number.value g.most) a_latch)
 
-    value_high : x.value ≤ 32767
+    value_high : x.number.value ≤ 32767
     unfolding between
     value_high =
-        let most = leb-true x.value g.most (and_right (leb 1 x.value) (leb x.value g.most) a_latch) in
+        let most = leb-true x.number.value g.most (and_right (leb 1 x.number.value) (leb x.number.value g.most) a_latch) in
         omega (arith, most, g.few)
 
-    literal_is : latch_literal (with_sign (minus_at text at) (span text x)) ≡ literal_if (ltb at x.start) x.value
+    literal_is : latch_literal (with_sign (minus_at text at) x.number.digits.now) ≡ literal_if (ltb at x.start) x.number.value
     unfolding worth
     literal_is =
-        let value = value_below text x w.stands (omega (arith, value_high)) in
-        latch_literal_is (minus_at text at) (span text x) (λ t. plain_span text at x w)
+        let value = value_below x.number (omega (arith, value_high)) in
+        latch_literal_is (minus_at text at) x.number.digits.now (λ t. plain_span text at x w)
         ∙ ap₂ literal_if (sym (sign_before text at x w)) (sym value)
 
     pub literal_at : LiteralAt text at x
@@ -100,59 +102,15 @@ module _ (text : List ℕ) (at : ℕ) (x : Number) (w : WordAt text at x) (g : W
               };
           bytes =
               ap clause_bytes (lemma_first g.most text at x w byte_after a_space)
-              ∙ ap (λ (l : Literal). literal_bytes l ++ clause_bytes (lemma_at text (x.end + 1))) literal_is;
+              ∙ ap (λ (l : Literal). literal_bytes l ++ clause_bytes (lemma_at text ((x.start + length x.number.digits.now) + 1))) literal_is;
         }
 
--- ---- what is left to write
+-- ---- room for a literal
 
 literal_length : (l : Literal) → length (literal_bytes l) ≡ 2
 unfolding literal_bytes two
 literal_length (pos v) = refl
 literal_length (neg v) = refl
 
--- So many bytes are written as the whole takes, and what is left, put behind them, makes the whole.
-pub record Left (whole : List ℕ) (at : ℕ) (out₀ : List ℕ) (rest : List ℕ) (to : ℕ) (out : List ℕ) : Type 0 where
-  pub kept : length out ≡ length out₀
-  pub far : to + length rest ≡ at + length whole
-  pub made : put to rest out ≡ put at whole out₀
-
-pub left_all : (whole : List ℕ) (at : ℕ) (out : List ℕ) → Left whole at out whole at out
-left_all whole at out = record { kept = refl; far = refl; made = refl }
-
-module _ (whole : List ℕ) (at : ℕ) (out₀ : List ℕ) where
-  -- nothing is left
-  pub left_none : (rest : List ℕ) (to : ℕ) (out : List ℕ) → rest ≡ [] → Left whole at out₀ rest to out
-      → (to ≡ at + length whole) × (out ≡ put at whole out₀)
-  left_none rest to out none l = (
-    omega (arith, ap length none, l.far),
-    sym (put_none to out) ∙ ap (λ (b : List ℕ). put to b out) (sym none) ∙ l.made,
-  )
-
-  -- there is a part to write first
-  module _ (room : at + length whole ≤ length out₀) (part rest both : List ℕ) (is : both ≡ part ++ rest) (to : ℕ) (out : List ℕ)
-      (l : Left whole at out₀ both to out) where
-    long : length both ≡ length part + length rest
-    long = ap length is ∙ length-append part rest
-
-    pub left_room : to + length part ≤ length out
-    left_room = omega (arith, long, l.far, l.kept)
-
-    pub left_more : Left whole at out₀ rest (to + length part) (put to part out)
-    left_more =
-        let inside : to ≤ length out = omega (arith, left_room) in
-        record {
-          kept = length_put to part out left_room ∙ l.kept;
-          far = omega (arith, long, l.far);
-          made = put_put to part rest out inside ∙ ap (λ (b : List ℕ). put to b out) (sym is) ∙ l.made;
-        }
-
-  -- the part is a literal
-  module _ (room : at + length whole ≤ length out₀) (p : Literal) (rest both : List ℕ) (is : both ≡ literal_bytes p ++ rest) (to : ℕ)
-      (out : List ℕ) (l : Left whole at out₀ both to out) where
-    pub literal_room : to + 2 ≤ length out
-    literal_room = omega (arith, left_room room (literal_bytes p) rest both is to out l, literal_length p)
-
-    pub literal_more : Left whole at out₀ rest (to + 2) (put to (literal_bytes p) out)
-    literal_more =
-        subst (λ (k : ℕ). Left whole at out₀ rest (to + k) (put to (literal_bytes p) out)) (literal_length p)
-        (left_more room (literal_bytes p) rest both is to out l)
+pub literal_room : (l : Literal) {out : Records} → HasRoom (literal_bytes l) out → out.end + 2 ≤ length out.bytes.now
+literal_room l room = omega (arith, room.fits, literal_length l)

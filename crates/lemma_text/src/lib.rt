@@ -2,91 +2,57 @@
 // lemmas written as records.
 #![tactic(auto)]
 
-ghost use Rattle.std.specs.Prelude.{◌≡◌, ◌+◌, ◌<◌, ◌≤◌, max, false, length};
-ghost use Rattle.meaning.specs.LemmaText.{wrong, read_lemma_text};
+ghost use Rattle.std.specs.Prelude.{◌≡◌, ◌<◌, ◌≤◌, IsOkAnd};
+ghost use Rattle.meaning.specs.LemmaText.{read_lemma_text};
 ghost use Rattle.lemma_text.specs.Rest.{summary_of, lemmas_of};
 ghost use Rattle.meaning.specs.Filed.{clause_records};
-ghost use Rattle.records.specs.Put.{put};
+ghost use Rattle.records.specs.Puts.{Puts, HasRoom};
 
 pub mod line;
 pub mod literals;
 
 use line::line_at;
+use lines::fault::Fault;
 use literals::put_literals;
-use records::put_head;
+use records::Records;
 
-// The place of the first line at fault; or how many lemmas there are, and the most literals that one of them has.
+// How many lemmas there are, and the most literals that one of them has.
 #[derive(Clone, Copy)]
 pub struct Lemmas {
-    pub fault: bool,
-    pub at: usize,
     pub count: usize,
     pub longest: usize,
 }
 
-// The larger of two numbers.
-fn larger(a: usize, b: usize) -> usize
-    ensures { result ≡ max a b }
-{
-    if a < b {
-        return b;
-    }
-    a
-}
-
-// What is told of a text whose line at a place is at fault.
-fn fault_at(at: usize) -> Lemmas
-    ensures { result ≡ summary_of (wrong at) }
-{
-    Lemmas {
-        fault: true,
-        at,
-        count: 0,
-        longest: 0,
-    }
-}
-
-// What a text over so many latches holds, in one pass.
-pub fn read_lemmas(text: &[u8], latches: usize) -> Lemmas
+// What a text over so many latches holds, in one pass; or the first line at fault.
+pub fn read_lemmas(text: &[u8], latches: usize) -> Result<Lemmas, Fault>
     requires { latches < 18446744073709551610 }
     ensures { result ≡ summary_of (read_lemma_text latches text.now) }
 {
     let mut at: usize = 0;
     let mut count: usize = 0;
     let mut longest: usize = 0;
+    // A walk by a place that jumps, from line to line; the lemmas counted are the answer, and no index.
     while at < text.len() {
-        let line = line_at(text, at, latches);
-        let past = line.past;
-        if past == 0 {
-            return fault_at(at);
-        }
-        longest = larger(longest, line.count);
+        let line = line_at(text, at, latches).ok_or(Fault { at })?;
+        longest = longest.max(line.count);
         count += 1;
-        at = past;
+        at = line.past;
     }
-    Lemmas {
-        fault: false,
-        at: 0,
-        count,
-        longest,
-    }
+    Ok(Lemmas { count, longest })
 }
 
-// Writes the lemmas of a text without a fault as records, and says where they end.
-pub fn write_lemmas(text: &[u8], latches: usize, out: &mut [u8], at: usize) -> usize
-    requires text_value { (summary_of (read_lemma_text latches text.now)).fault ≡ false }
-    requires text_bound { (summary_of (read_lemma_text latches text.now)).longest ≤ 64 }
+// Writes the lemmas of a text without a fault as records.
+pub fn write_lemmas(text: &[u8], latches: usize, out: &mut Records<'_>)
+    requires text_value { IsOkAnd (summary_of (read_lemma_text latches text.now)) (λ l. l.longest ≤ 64) }
     requires latches_bound { latches ≤ 96 }
-    requires text_in_bounds { at + length (clause_records 5 (lemmas_of (read_lemma_text latches text.now))) ≤ length out.old }
-    ensures { (result ≡ at + length (clause_records 5 (lemmas_of (read_lemma_text latches text.now)))) × (out.new ≡ put at (clause_records 5 (lemmas_of (read_lemma_text latches text.now))) out.old) }
+    requires text_in_bounds { HasRoom (clause_records 5 (lemmas_of (read_lemma_text latches text.now))) out.old }
+    ensures { Puts (clause_records 5 (lemmas_of (read_lemma_text latches text.now))) out.old out.new }
 {
     let mut from: usize = 0;
-    let mut to = at;
-    while from < text.len() {
-        let line = line_at(text, from, latches);
-        put_head(out, to, 2 * line.count, 5);
-        to = put_literals(text, from, out, to + 4);
+    // A walk by a place that jumps, from line to line: no index is counted.
+    while let Some(line) = line_at(text, from, latches) {
+        out.put_head(2 * line.count, 5);
+        put_literals(text, from, out);
         from = line.past;
     }
-    to
 }

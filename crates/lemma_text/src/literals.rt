@@ -1,28 +1,27 @@
 // The literals of a lemma, written as they stand on its line.
-ghost use Rattle.std.specs.Prelude.{◌≡◌, ◌+◌, ◌≤◌, length};
-ghost use Rattle.records.specs.Put.{put};
+ghost use Rattle.std.specs.Prelude.{◌≤◌, length};
+ghost use Rattle.records.specs.Puts.{Puts, HasRoom};
 ghost use Rattle.lemma_text.specs.Written.{Writable, lemma_bytes};
 
-use crate::line::digits_at;
-use records::put_literal;
+use crate::line::word_at;
+use records::Records;
 
-// Writes them from a place on, and says where they end.
-pub fn put_literals(text: &[u8], from: usize, out: &mut [u8], at: usize) -> usize
+// Writes them.
+pub fn put_literals(text: &[u8], from: usize, out: &mut Records<'_>)
     requires from_in_bounds { from ≤ length text.now }
     requires writable { Writable text.now from }
-    requires from_in_bounds_2 { at + length (lemma_bytes text.now from) ≤ length out.old }
-    ensures { (result ≡ at + length (lemma_bytes text.now from)) × (out.new ≡ put at (lemma_bytes text.now from) out.old) }
+    requires from_in_bounds_2 { HasRoom (lemma_bytes text.now from) out.old }
+    ensures { Puts (lemma_bytes text.now from) out.old out.new }
 {
     let mut p = from;
-    let mut to = at;
+    // A walk by a place that jumps, from word to word: no index is counted.
     loop {
-        let x = digits_at(text, p);
-        let end = x.end;
-        if text[end] == 10 {
-            return to;
+        let x = word_at(text, p);
+        let end = x.start + x.number.digits.len();
+        if text[end] == b'\n' {
+            return;
         }
-        put_literal(out, to, p < x.start, x.value);
-        to += 2;
+        out.put_literal(p < x.start, x.number.value);
         p = end + 1;
     }
 }

@@ -1,4 +1,6 @@
 -- What is said of lines and numbers as the code finds them, and the laws that tie it to the definitions of the texts.
+pub mod Digits
+pub mod Faults
 pub mod Numbers
 pub mod Past
 pub mod PastLaws

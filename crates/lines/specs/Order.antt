@@ -4,20 +4,24 @@ use Rattle.std.proofs.Common.{arith, add-mul, mul_assoc, mul-le-mul_right, zero-
 use Rattle.std.proofs.lemmas.Bool.{eqb-false}
 use Rattle.laws.specs.Basics.{bool_cases}
 use Rattle.lines.specs.Tails.{ten}
+use Rattle.std.specs.declared.cmp.Ordering.{Ordering}
+use Rattle.std.specs.declared.cmp.Ordering.TheVariants.{Less, Equal, Greater}
+use Rattle.std.specs.Ordering.{ordering_then, nat_cmp}
+use Rattle.std.proofs.lemmas.Bool.Decides.{nat_tests}
 
--- 0 where a is less than b, 1 where they are equal, 2 where a is more
-unfoldable pub order : ℕ → ℕ → ℕ
-order a b = cond (ltb a b) 0 (cond (eqb a b) 1 2)
+-- which of two numbers is less
+unfoldable pub order : ℕ → ℕ → Ordering
+order a b = cond (ltb a b) Less (cond (eqb a b) Equal Greater)
 
-pub order_less : (a b : ℕ) → a < b → order a b ≡ 0
+pub order_less : (a b : ℕ) → a < b → order a b ≡ Less
 unfolding order
 order_less a b h = rw (lt-ltb a b h)
 
-pub order_same : (a b : ℕ) → a ≡ b → order a b ≡ 1
+pub order_same : (a b : ℕ) → a ≡ b → order a b ≡ Equal
 unfolding order
 order_same a b h = rw (le-ltb a b (omega (arith, h)), eq-eqb a b h)
 
-pub order_more : (a b : ℕ) → b < a → order a b ≡ 2
+pub order_more : (a b : ℕ) → b < a → order a b ≡ Greater
 unfolding order
 order_more a b h =
     let least : b ≤ a = omega arith in
@@ -45,7 +49,7 @@ order_shift k a b = go (order_cases a b)
     go (inr (inr h)) = order_more (k + a) (k + b) (omega arith) ∙ sym (order_more a b h)
 
 -- As far as p digits from the right are read: the sum so far is `carry` times ten to the p and a rest, and `seen` is how the rest compares.
-pub record Compared (sum m : ℕ) (P carry seen : ℕ) : Type 0 where
+pub record Compared (sum m : ℕ) (P carry : ℕ) (seen : Ordering) : Type 0 where
   pub rest : ℕ
   pub is : sum ≡ carry * P + rest
   pub small : rest < P
@@ -53,17 +57,22 @@ pub record Compared (sum m : ℕ) (P carry seen : ℕ) : Type 0 where
   pub order_is : seen ≡ order rest m
 
 -- what is seen when two digits are compared
-unfoldable pub next_seen : ℕ → ℕ → ℕ → ℕ
-next_seen low d seen = cond (ltb low d) 0 (cond (ltb d low) 2 seen)
+unfoldable pub next_seen : ℕ → ℕ → Ordering → Ordering
+next_seen low d seen = cond (ltb low d) Less (cond (ltb d low) Greater seen)
+
+-- as the code has it: by the digits, and where they are equal by what was seen
+pub then_seen : (low d : ℕ) (seen : Ordering) → ordering_then (nat_cmp low d) seen ≡ next_seen low d seen
+unfolding next_seen
+then_seen low d seen = grind (arith, nat_tests)
 
 -- nothing is read yet
-pub compared_none : (carry : ℕ) → Compared (0 + 0 + 0 + carry) 0 (ten 0) carry 1
+pub compared_none : (carry : ℕ) → Compared (0 + 0 + 0 + carry) 0 (ten 0) carry Equal
 unfolding ten
 compared_none carry =
     record { rest = 0; is = omega arith; small = omega arith; m_small = omega arith; order_is = sym (order_same 0 0 refl) }
 
 -- a digit more of each: s is the sum of the three digits, d that of the fourth number
-pub compared_more : (sum m P carry seen s d : ℕ) → Compared sum m P carry seen → d ≤ 9
+pub compared_more : (sum m P carry : ℕ) (seen : Ordering) (s d : ℕ) → Compared sum m P carry seen → d ≤ 9
     → Compared (s * P + sum) (d * P + m) (10 * P) ((s + carry) / 10) (next_seen ((s + carry) % 10) d seen)
 unfolding next_seen
 compared_more sum m P carry seen s d c nine =
@@ -96,7 +105,7 @@ compared_more sum m P carry seen s d c nine =
         omega (arith, c.is, spread, whole, parts, tens)
 
     seen_more : (less more : Bool) → ltb low d ≡ less → ltb d low ≡ more
-        → cond less 0 (cond more 2 seen) ≡ order (low * P + rest) (d * P + m)
+        → cond less Less (cond more Greater seen) ≡ order (low * P + rest) (d * P + m)
     seen_more true more t' u =
         let above = mul-le-mul_right P (up (ltb-true low d t')) in
         sym (order_less (low * P + rest) (d * P + m) (omega (arith, above, add-mul low 1 P, one-mul P, c.small)))
@@ -117,11 +126,11 @@ compared_more sum m P carry seen s d c nine =
         both h g = omega arith
 
 -- all digits are read
-pub compared_over : (sum m P carry seen : ℕ) → Compared sum m P carry seen → 0 < carry → 2 ≡ order sum m
+pub compared_over : (sum m P carry : ℕ) (seen : Ordering) → Compared sum m P carry seen → 0 < carry → Greater ≡ order sum m
 compared_over sum m P carry seen c h =
     let least = mul-le-mul_right P h in
     sym (order_more sum m (omega (arith, c.is, c.m_small, least, one-mul P)))
 
-pub compared_all : (sum m P carry seen : ℕ) → Compared sum m P carry seen → carry ≡ 0 → seen ≡ order sum m
+pub compared_all : (sum m P carry : ℕ) (seen : Ordering) → Compared sum m P carry seen → carry ≡ 0 → seen ≡ order sum m
 compared_all sum m P carry seen c e =
     c.order_is ∙ ap (λ (k : ℕ). order k m) (omega (arith, c.is, ap (λ (k : ℕ). k * P) e, zero-mul P))

@@ -1,11 +1,10 @@
 -- Lines of numbers, read from the front: what a number at a place and the byte after it say of the line that starts there.
 use Prim.Native.Nat.{ℕ, suc, ◌+◌, ◌≤◌, ◌<◌}
 use Rattle.std.proofs.Common.{arith, add-one, sym, ◌∙◌, length-append, drop_of_length-le, drop-cons, drop-drop}
-use Rattle.std.specs.Prelude.{◌≡◌, refl, Bool, true, false, not, ◌&&◌, cond, drop, eqb}
+use Rattle.std.specs.Prelude.{◌≡◌, refl, Bool, true, false, not, ◌&&◌, cond, drop, eqb, Option, Some, None}
 use Rattle.std.proofs.Math.Path.{ap}
 use mathlib.Core.List.{List, [], ◌∷◌, ◌++◌, append-nil}
 use Rattle.std.proofs.Math.ListN.{length, get_or}
-use Rattle.std.proofs.Math.Seq.{length-slice}
 use Rattle.std.proofs.Math.Dec.{ltb}
 use borrow.Author.Tests.{lt-ltb, le-ltb, eq-eqb, ne_eqb, leb-true}
 use Rattle.meaning.specs.Clauses.{all}
@@ -13,11 +12,11 @@ use Rattle.meaning.specs.File.{between}
 use Rattle.meaning.specs.Lines.{newline, space, until, line_at, ended, next_line, with_first, words, is_empty, is_digit, is_number, of_numbers}
 use Rattle.laws.specs.Basics.{and_left, and_right}
 use Rattle.lines.specs.declared.number.Number.{Number}
-use Rattle.lines.specs.Numbers.{digits_of, span, Stands}
+use Rattle.lines.specs.Digits.{digits_of}
 
--- where the line after one of so many numbers starts; 0 where it is not ended or not so
-unfoldable pub line_past : ℕ → List ℕ → ℕ → ℕ
-line_past width text at = cond (ended text at && of_numbers width (line_at text at)) (next_line text at) 0
+-- where the line after one of so many numbers starts; none where it is not ended or not so
+unfoldable pub line_past : ℕ → List ℕ → ℕ → Option ℕ
+line_past width text at = cond (ended text at && of_numbers width (line_at text at)) (Some (next_line text at)) None
 
 -- ---- one byte that is not a newline
 
@@ -138,99 +137,94 @@ spoiled d b w ws h = rw (no_digits d) (go (is_empty (d ++ (b ∷ w))))
 
 -- ---- a number at the start of a line, and the byte after it
 
-module _ (text : List ℕ) (at : ℕ) (x : Number) (stands : Stands text x) (start : x.start ≡ at)
-    (whole : span text x ≡ digits_of (drop at text)) where
-  pub long : x.end ≡ at + length (span text x)
-  unfolding span
-  long = omega (arith, length-slice x.start x.end text stands.inside, stands.rises, start)
-
-  rest : drop at text ≡ span text x ++ drop x.end text
+module _ (text : List ℕ) (at : ℕ) (x : Number) (whole : x.digits.now ≡ digits_of (drop at text)) where
+  rest : drop at text ≡ x.digits.now ++ drop (at + length x.digits.now) text
   rest =
       digits_take (drop at text)
       ∙ ap (λ (d : List ℕ). d ++ drop (length d) (drop at text)) (sym whole)
-      ∙ ap (λ (l : List ℕ). span text x ++ l) (drop-drop (length (span text x)) at text ∙ ap (λ (k : ℕ). drop k text) (sym long))
+      ∙ ap (λ (l : List ℕ). x.digits.now ++ l) (drop-drop (length x.digits.now) at text)
 
   -- the byte after it is no digit
-  pub no_digit_after : x.end < length text → is_digit (get_or text x.end 0) ≡ false
+  pub no_digit_after : (at + length x.digits.now) < length text → is_digit (get_or text (at + length x.digits.now) 0) ≡ false
   no_digit_after inside =
       let none =
       ap (λ (d : List ℕ). digits_of (drop (length d) (drop at text))) whole ∙ digits_rest (drop at text) in
-      let here = ap digits_of (ap (λ (k : ℕ). drop k text) long ∙ sym (drop-drop (length (span text x)) at text)) ∙ none in
-      no_digit_first (get_or text x.end 0) (drop (suc x.end) text)
-      (ap digits_of (sym (drop-cons text x.end 0 inside)) ∙ here)
+      let here = ap digits_of (sym (drop-drop (length x.digits.now) at text)) ∙ none in
+      no_digit_first (get_or text (at + length x.digits.now) 0) (drop (suc (at + length x.digits.now)) text)
+      (ap digits_of (sym (drop-cons text (at + length x.digits.now) 0 inside)) ∙ here)
 
-  pub line_number : line_at text at ≡ span text x ++ line_at text x.end
+  pub line_number : line_at text at ≡ x.digits.now ++ line_at text (at + length x.digits.now)
   unfolding line_at
-  line_number = ap (until newline) rest ∙ until_digits (span text x) (drop x.end text) stands.digits
+  line_number = ap (until newline) rest ∙ until_digits x.digits.now (drop (at + length x.digits.now) text) x.digital
 
   -- the line ends where the rest of it ends
-  same_length : at + length (line_at text at) ≡ x.end + length (line_at text x.end)
-  same_length = omega (arith, ap length line_number, length-append (span text x) (line_at text x.end), long)
+  same_length : at + length (line_at text at) ≡ (at + length x.digits.now) + length (line_at text (at + length x.digits.now))
+  same_length = omega (arith, ap length line_number, length-append x.digits.now (line_at text (at + length x.digits.now)))
 
-  pub ended_number : ended text at ≡ ended text x.end
+  pub ended_number : ended text at ≡ ended text (at + length x.digits.now)
   unfolding ended
   ended_number = ap (λ (k : ℕ). ltb k (length text)) same_length
 
-  pub next_number : next_line text at ≡ next_line text x.end
+  pub next_number : next_line text at ≡ next_line text (at + length x.digits.now)
   unfolding next_line
   next_number = ap suc same_length
 
   -- no byte follows
-  pub number_cut : length text ≤ x.end → ended text at ≡ false
+  pub number_cut : length text ≤ (at + length x.digits.now) → ended text at ≡ false
   unfolding ended
   number_cut h =
-      ended_number ∙ not_ended text x.end h
+      ended_number ∙ not_ended text (at + length x.digits.now) h
 
-  module _ (inside : x.end < length text) where
+  module _ (inside : (at + length x.digits.now) < length text) where
     -- a newline follows: the line is this number
-    module _ (is : get_or text x.end 0 ≡ newline) where
-      pub words_last : words (line_at text at) ≡ (span text x ∷ [])
+    module _ (is : get_or text (at + length x.digits.now) 0 ≡ newline) where
+      pub words_last : words (line_at text at) ≡ (x.digits.now ∷ [])
       unfolding words
       words_last =
           ap words line_number
-          ∙ words_digits (span text x) (line_at text x.end) [] [] stands.digits (ap words (line_none text x.end inside is))
-          ∙ ap (λ (w : List ℕ). w ∷ []) (append-nil (span text x))
+          ∙ words_digits x.digits.now (line_at text (at + length x.digits.now)) [] [] x.digital (ap words (line_none text (at + length x.digits.now) inside is))
+          ∙ ap (λ (w : List ℕ). w ∷ []) (append-nil x.digits.now)
 
       pub ended_last : ended text at ≡ true
       unfolding ended
       ended_last =
-          ended_number ∙ lt-ltb (x.end + length (line_at text x.end)) (length text)
-          (omega (arith, ap length (line_none text x.end inside is)))
+          ended_number ∙ lt-ltb ((at + length x.digits.now) + length (line_at text (at + length x.digits.now))) (length text)
+          (omega (arith, ap length (line_none text (at + length x.digits.now) inside is)))
 
-      pub next_last : next_line text at ≡ x.end + 1
+      pub next_last : next_line text at ≡ (at + length x.digits.now) + 1
       unfolding next_line
-      next_last = next_number ∙ omega (arith, ap length (line_none text x.end inside is))
+      next_last = next_number ∙ omega (arith, ap length (line_none text (at + length x.digits.now) inside is))
 
     -- a space follows: the rest of the line stands after it
-    module _ (is : get_or text x.end 0 ≡ space) where
-      line_space : line_at text x.end ≡ (space ∷ line_at text (x.end + 1))
+    module _ (is : get_or text (at + length x.digits.now) 0 ≡ space) where
+      line_space : line_at text (at + length x.digits.now) ≡ (space ∷ line_at text ((at + length x.digits.now) + 1))
       line_space =
-          line_byte text x.end inside (λ e. omega (arith, is, e))
-          ∙ ap (λ (b : ℕ). b ∷ line_at text (suc x.end)) is
-          ∙ ap (λ (k : ℕ). space ∷ line_at text k) (sym (add-one x.end))
+          line_byte text (at + length x.digits.now) inside (λ e. omega (arith, is, e))
+          ∙ ap (λ (b : ℕ). b ∷ line_at text (suc (at + length x.digits.now))) is
+          ∙ ap (λ (k : ℕ). space ∷ line_at text k) (sym (add-one (at + length x.digits.now)))
 
-      pub words_space : words (line_at text at) ≡ (span text x ∷ words (line_at text (x.end + 1)))
+      pub words_space : words (line_at text at) ≡ (x.digits.now ∷ words (line_at text ((at + length x.digits.now) + 1)))
       unfolding words
       words_space =
           ap words line_number
-          ∙ words_digits (span text x) (line_at text x.end) [] (words (line_at text (x.end + 1))) stands.digits (ap words line_space)
-          ∙ ap (λ (w : List ℕ). w ∷ words (line_at text (x.end + 1))) (append-nil (span text x))
+          ∙ words_digits x.digits.now (line_at text (at + length x.digits.now)) [] (words (line_at text ((at + length x.digits.now) + 1))) x.digital (ap words line_space)
+          ∙ ap (λ (w : List ℕ). w ∷ words (line_at text ((at + length x.digits.now) + 1))) (append-nil x.digits.now)
 
-      pub ended_space : ended text at ≡ ended text (x.end + 1)
-      ended_space = ended_number ∙ ended_byte text x.end inside (λ e. omega (arith, is, e))
+      pub ended_space : ended text at ≡ ended text ((at + length x.digits.now) + 1)
+      ended_space = ended_number ∙ ended_byte text (at + length x.digits.now) inside (λ e. omega (arith, is, e))
 
-      pub next_space : next_line text at ≡ next_line text (x.end + 1)
-      next_space = next_number ∙ next_byte text x.end inside (λ e. omega (arith, is, e))
+      pub next_space : next_line text at ≡ next_line text ((at + length x.digits.now) + 1)
+      next_space = next_number ∙ next_byte text (at + length x.digits.now) inside (λ e. omega (arith, is, e))
 
     -- another byte follows: the first word is no number
-    pub words_other : (get_or text x.end 0 ≡ newline → ⊥) → (get_or text x.end 0 ≡ space → ⊥)
+    pub words_other : (get_or text (at + length x.digits.now) 0 ≡ newline → ⊥) → (get_or text (at + length x.digits.now) 0 ≡ space → ⊥)
         → all is_number (words (line_at text at)) ≡ false
     unfolding words with_first
     words_other not_newline not_space =
-        let b = get_or text x.end 0 in
-        let on = first_word (line_at text (suc x.end)) in
-        let line = line_byte text x.end inside not_newline in
-        let here : words (line_at text x.end) ≡ ((b ∷ on.0) ∷ on.1) =
+        let b = get_or text (at + length x.digits.now) 0 in
+        let on = first_word (line_at text (suc (at + length x.digits.now))) in
+        let line = line_byte text (at + length x.digits.now) inside not_newline in
+        let here : words (line_at text (at + length x.digits.now)) ≡ ((b ∷ on.0) ∷ on.1) =
         ap words line ∙ rw (ne_eqb b space not_space) (ap (with_first b) on.2) in
-        let is = ap words line_number ∙ words_digits (span text x) (line_at text x.end) (b ∷ on.0) on.1 stands.digits here in
-        ap (all is_number) is ∙ spoiled (span text x) b on.0 on.1 (no_digit_after inside)
+        let is = ap words line_number ∙ words_digits x.digits.now (line_at text (at + length x.digits.now)) (b ∷ on.0) on.1 x.digital here in
+        ap (all is_number) is ∙ spoiled x.digits.now b on.0 on.1 (no_digit_after inside)

@@ -1,70 +1,57 @@
 // Numbers of any size compared, digit by digit from the right, where their values do not fit a word.
-ghost use Rattle.std.specs.Prelude.{◌≡◌, ◌+◌, ◌-◌, ◌<◌, ◌≤◌};
-ghost use Rattle.lines.specs.Numbers.{Stands, span, worth};
+ghost use Rattle.std.specs.Prelude.{◌≡◌, ◌+◌, ◌≤◌, eqb};
+ghost use Rattle.lines.specs.Numbers.{worth};
 ghost use Rattle.lines.specs.Tails.{digit_from};
-ghost use Rattle.lines.specs.Order.{order, next_seen};
-ghost use Rattle.lines.specs.Sums.{digit_count};
+ghost use Rattle.lines.specs.Order.{order};
 
-use crate::number::{Number, digit_at};
+use crate::number::{Number, no_number};
+use std::cmp::Ordering;
 
 // The digit with so many digits after it; 0 where there is none.
-fn digit_from(text: &[u8], x: Number, p: usize) -> usize
-    requires { Stands text.now x }
-    ensures { (result ≡ digit_from (span text.now x) p) × (result ≤ 9) }
+fn digit_from(x: &Number, p: usize) -> usize
+    ensures { (result ≡ digit_from x.now.digits.now p) × (result ≤ 9) }
 {
-    let end = x.end;
-    if end - x.start <= p {
+    if x.digits.len() <= p {
         return 0;
     }
-    digit_at(text, end - 1 - p)
+    usize::from(x.digits[x.digits.len() - 1 - p] - b'0')
 }
 
-// The larger of a width and a number's.
-fn wider(width: usize, x: Number) -> usize
-    requires { x.start ≤ x.end }
-    ensures { (width ≤ result) × (digit_count x ≤ result) }
+// The sum of three numbers and a carry, compared with a fourth.
+pub fn compare<'t>(
+    a: &Number<'t>,
+    b: &Number<'t>,
+    c: &Number<'t>,
+    carry: usize,
+    m: &Number<'t>,
+) -> Ordering
+    requires { carry ≤ 9 }
+    ensures { result ≡ order (worth a.now + worth b.now + worth c.now + carry) (worth m.now) }
 {
-    let own = x.end - x.start;
-    if width < own {
-        return own;
-    }
-    width
-}
-
-// What is seen when two digits are compared.
-fn next_seen(low: usize, d: usize, seen: usize) -> usize
-    ensures { result ≡ next_seen low d seen }
-{
-    if low < d {
-        return 0;
-    }
-    if d < low {
-        return 2;
-    }
-    seen
-}
-
-// The sum of three numbers and a carry, compared with a fourth: 0 less, 1 equal, 2 more.
-pub fn compare(text: &[u8], a: Number, b: Number, c: Number, carry: usize, m: Number) -> usize
-    requires stands { Stands text.now a }
-    requires stands_2 { Stands text.now b }
-    requires stands_3 { Stands text.now c }
-    requires stands_4 { Stands text.now m }
-    requires carry_bound { carry ≤ 9 }
-    ensures { result ≡ order (worth text.now a + worth text.now b + worth text.now c + carry) (worth text.now m) }
-{
-    let width = wider(wider(wider(wider(0, a), b), c), m);
-    let mut p: usize = 0;
+    let width = a
+        .digits
+        .len()
+        .max(b.digits.len())
+        .max(c.digits.len())
+        .max(m.digits.len());
     let mut over = carry;
-    let mut seen: usize = 1;
-    while p < width {
-        let sum = digit_from(text, a, p) + digit_from(text, b, p) + digit_from(text, c, p) + over;
-        seen = next_seen(sum % 10, digit_from(text, m, p), seen);
+    let mut seen = Ordering::Equal;
+    for p in 0..width {
+        let sum = digit_from(a, p) + digit_from(b, p) + digit_from(c, p) + over;
+        seen = (sum % 10).cmp(&digit_from(m, p)).then(seen);
         over = sum / 10;
-        p += 1;
     }
     if 0 < over {
-        return 2;
+        return Ordering::Greater;
     }
     seen
+}
+
+// Whether a number and so much more is another number.
+pub fn is_sum(a: &Number, carry: usize, b: &Number) -> bool
+    requires { carry ≤ 9 }
+    ensures { result ≡ eqb (worth a.now + carry) (worth b.now) }
+{
+    let none = no_number();
+    compare(a, &none, &none, carry, b).is_eq()
 }

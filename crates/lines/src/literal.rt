@@ -1,80 +1,53 @@
 // Literals of a circuit: whether one is even, its range by the header, and whether two have the same variable.
-ghost use Rattle.std.specs.Prelude.{◌≡◌, ◌<◌, ◌≤◌, ◌%◌, eqb};
+ghost use Rattle.std.specs.Prelude.{◌≡◌, ◌<◌, ◌%◌, eqb, length};
 ghost use Rattle.meaning.specs.Circuit.{var};
 ghost use Rattle.meaning.specs.CircuitText.{used_right};
-ghost use Rattle.lines.specs.Numbers.{Stands, worth};
+ghost use Rattle.lines.specs.Numbers.{worth};
 
-use crate::compare::compare;
-use crate::number::{Number, digit_at};
+use crate::compare::{compare, is_sum};
+use crate::number::{Number, no_number};
 
 // The last digit says it.
-pub fn is_even(text: &[u8], x: Number) -> bool
-    requires stands { Stands text.now x }
-    requires start_lt_end { x.start < x.end }
-    ensures { result ≡ eqb (worth text.now x % 2) 0 }
+pub fn is_even(x: &Number) -> bool
+    requires { 0 < length x.now.digits.now }
+    ensures { result ≡ eqb (worth x.now % 2) 0 }
 {
-    let end = x.end;
-    digit_at(text, end - 1) % 2 == 0
+    x.digits[x.digits.len() - 1] % 2 == 0
 }
 
 // A literal that is used is 0 to 2M+1.
-pub fn used_right(text: &[u8], m: Number, l: Number) -> bool
-    requires stands { Stands text.now m }
-    requires stands_2 { Stands text.now l }
-    ensures { result ≡ used_right (worth text.now m) (worth text.now l) }
+pub fn used_right(m: &Number, l: &Number) -> bool
+    ensures { result ≡ used_right (worth m.now) (worth l.now) }
 {
     if l.value < Number::HUGE {
         return l.value / 2 <= m.value;
     }
-    let at = l.start;
-    let none = Number {
-        start: at,
-        end: at,
-        value: 0,
-    };
-    compare(text, m, m, none, 1, l) != 0
+    compare(m, m, &no_number(), 1, l).is_ge()
 }
 
 // Whether two literals have the same variable.
-pub fn same_variable(text: &[u8], a: Number, b: Number) -> bool
-    requires stands { Stands text.now a }
-    requires stands_2 { Stands text.now b }
-    ensures { result ≡ eqb (var (worth text.now a)) (var (worth text.now b)) }
+pub fn same_variable(a: &Number, b: &Number) -> bool
+    ensures { result ≡ eqb (var (worth a.now)) (var (worth b.now)) }
 {
-    if a.value < Number::HUGE {
-        if b.value < Number::HUGE {
-            return a.value / 2 == b.value / 2;
-        }
-        return false;
+    match (a.value < Number::HUGE, b.value < Number::HUGE) {
+        (true, true) => a.value / 2 == b.value / 2,
+        (true, false) => false,
+        (false, true) => false,
+        (false, false) => same_far(a, b),
     }
-    if b.value < Number::HUGE {
-        return false;
-    }
-    same_far(text, a, b)
 }
 
 // The same where neither value fits a word.
-fn same_far(text: &[u8], a: Number, b: Number) -> bool
-    requires stands { Stands text.now a }
-    requires stands_2 { Stands text.now b }
-    requires start_lt_end { a.start < a.end }
-    requires start_lt_end_2 { b.start < b.end }
-    ensures { result ≡ eqb (var (worth text.now a)) (var (worth text.now b)) }
+fn same_far(a: &Number, b: &Number) -> bool
+    requires a_has_digits { 0 < length a.now.digits.now }
+    requires b_has_digits { 0 < length b.now.digits.now }
+    ensures { result ≡ eqb (var (worth a.now)) (var (worth b.now)) }
 {
-    let at = a.start;
-    let none = Number {
-        start: at,
-        end: at,
-        value: 0,
-    };
-    if compare(text, a, none, none, 0, b) == 1 {
+    if is_sum(a, 0, b) {
         return true;
     }
-    if is_even(text, a) {
-        return compare(text, a, none, none, 1, b) == 1;
+    if is_even(a) {
+        return is_sum(a, 1, b);
     }
-    if is_even(text, b) {
-        return compare(text, b, none, none, 1, a) == 1;
-    }
-    false
+    is_even(b) && is_sum(b, 1, a)
 }

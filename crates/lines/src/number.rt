@@ -1,41 +1,41 @@
 // A number where it stands in a text.
-ghost use Rattle.std.specs.Prelude.{◌≡◌, ◌<◌, ◌≤◌, length, drop};
-ghost use Rattle.lines.specs.Numbers.{digit_at, grown, Stands, span, digits_of};
+ghost use Rattle.std.specs.Prelude.{◌≡◌, true, [], ◌+◌, ◌≤◌, length, drop, IfSome};
+ghost use Rattle.meaning.specs.Clauses.{all};
+ghost use Rattle.meaning.specs.Lines.{is_digit, decimal};
+ghost use Rattle.lines.specs.Digits.{digit_at, capped, grown, digits_of};
 
-// The place of its digits, and its value; HUGE stands for every value from there on.
+// Its digits, and its value; HUGE stands for every value from there on.
 #[derive(Clone, Copy)]
-pub struct Number {
-    pub start: usize,
-    pub end: usize,
+pub struct Number<'a> {
+    pub digits: &'a [u8],
     pub value: usize,
+    pub ghost digital: { all is_digit digits.now ≡ true },
+    pub ghost valued: { value ≡ capped (decimal digits.now) },
 }
 
-impl Number {
+impl Number<'_> {
     // The last value, down from what a word holds, that ends in the digit 0.
     pub const HUGE: usize = 18446744073709551610;
 }
 
-fn wide(b: u8) -> usize
-    ensures { (result ≡ b) × (result < 256) }
+// The number with no digits, which is 0.
+pub fn no_number() -> Number<'static>
+    ensures { result.digits.now ≡ [] }
 {
-    b as usize
+    Number {
+        digits: b"",
+        value: 0,
+    }
 }
 
-// What the byte at a place is worth as a digit: 10 where it is none, or where the text has ended.
-pub fn digit_at(text: &[u8], at: usize) -> usize
-    ensures { (result ≡ digit_at text.now at) × (result ≤ 10) }
+// The digit at a place, if one stands there.
+pub fn digit_at(text: &[u8], at: usize) -> Option<usize>
+    ensures { (result ≡ digit_at text.now at) × IfSome result (λ d. d ≤ 9) }
 {
-    if text.len() <= at {
-        return 10;
+    if text.len() <= at || !text[at].is_ascii_digit() {
+        return None;
     }
-    let b = wide(text[at]);
-    if b < 48 {
-        return 10;
-    }
-    if 57 < b {
-        return 10;
-    }
-    b - 48
+    Some(usize::from(text[at] - b'0'))
 }
 
 // One digit more: what is huge stays huge.
@@ -50,22 +50,23 @@ fn grown(value: usize, digit: usize) -> usize
 }
 
 // The number whose digits start at a place: all digits from there on, perhaps none.
-pub fn number_at(text: &[u8], at: usize) -> Number
+pub fn number_at(text: &[u8], at: usize) -> Number<'_>
     requires { at ≤ length text.now }
-    ensures { Stands text.now result × (result.start ≡ at) × (span text.now result ≡ digits_of (drop at text.now)) }
+    ensures digits { result.digits.now ≡ digits_of (drop at text.now) }
+    ensures inside { at + length result.digits.now ≤ length text.now }
 {
-    let mut end = at;
     let mut value: usize = 0;
-    loop {
-        let digit = digit_at(text, end);
-        if 9 < digit {
+    for end in at..text.len() {
+        let Some(digit) = digit_at(text, end) else {
             return Number {
-                start: at,
-                end,
+                digits: &text[at..end],
                 value,
             };
-        }
+        };
         value = grown(value, digit);
-        end += 1;
+    }
+    Number {
+        digits: &text[at..],
+        value,
     }
 }

@@ -21,6 +21,7 @@ fn read_full<R: Read>(from: &mut R, buf: &mut [u8]) -> usize
     ensures { result ≤ length buf.new }
 {
     let mut done: usize = 0;
+    // no `for`: done goes on by as many bytes as a read gave
     while done < buf.len() {
         match from.read(&mut buf[done..]) {
             Ok(0) => return done,

@@ -3,7 +3,7 @@ use Prim.Native.Nat.{ℕ, zero, suc, ◌+◌, ◌-◌, ◌*◌, ◌/◌, ◌≤�
 use native.Mathlib.Nat.{not-suc-le-zero}
 use native.Mathlib.Numerals.{add-one, sub-one}
 use native.Mathlib.Omega.{arith}
-use mathlib.Core.Path.{◌≡◌, refl, sym, ap, ◌∙◌, subst}
+use mathlib.Core.Path.{◌≡◌, refl, sym, ap, ap₂, ◌∙◌, subst, subst₂}
 use mathlib.Core.Bool.{Bool, true, false, true≢false}
 use mathlib.Core.List.{List, [], ◌∷◌, map}
 use lib.ListN.{length, get_or, drop}
@@ -42,6 +42,23 @@ module _ (file : List ℕ) (at left : ℕ) (h : 0 < left) (r : Literals file at 
 
   pub literals_next : Literals file (at + 2) (left - 1)
   literals_next = let i : at + 2 * left ≤ length file = r.inside in record { inside = omega arith; within = first_within.1 }
+
+-- the literals after so many of them
+module _ (file : List ℕ) (start count i : ℕ) (h : i < count) where
+  pub some_left : 0 < count - i
+  some_left = omega arith
+
+  pub one_fewer : count - i - 1 ≡ count - (i + 1)
+  one_fewer = omega arith
+
+  pub two_on : start + 2 * i + 2 ≡ start + 2 * (i + 1)
+  two_on = omega arith
+
+  pub rest_after : literals file (start + 2 * i + 2) (count - i - 1) ≡ literals file (start + 2 * (i + 1)) (count - (i + 1))
+  rest_after = ap₂ (literals file) two_on one_fewer
+
+  pub literals_after : Literals file (start + 2 * i) (count - i) → Literals file (start + 2 * (i + 1)) (count - (i + 1))
+  literals_after r = subst₂ (Literals file) two_on one_fewer (literals_next file (start + 2 * i) (count - i) some_left r)
 
 -- a literal of a clause is read, and its value told as an entry
 

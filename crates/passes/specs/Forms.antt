@@ -1,13 +1,13 @@
 -- What the code's types stand for: the entries of a setting, what a clause comes to, and passes.
 use Rattle.std.specs.Prelude.{ℕ, zero, suc, Bool, true, false, List, map}
 use Rattle.std.proofs.Math.Option.{Option, none, some}
-use Rattle.meaning.specs.Clauses.{pos, neg}
 use Rattle.meaning.specs.Search
 use Rattle.format.specs.Forms.{literal_of}
 use Rattle.passes.specs.Sweep as spec
 use Rattle.passes.specs.declared.Status.{Status}
 use Rattle.passes.specs.declared.Status.TheVariants.{Holds, Fails, One, More}
 use Rattle.passes.specs.declared.Tally.{Tally}
+use Rattle.passes.specs.declared.Tally.TheVariants.{Satisfied, Forced, Closed, Try}
 
 -- an entry of a setting: 0 unset, 1 true, 2 false
 unfoldable pub entry : ℕ → Option Bool
@@ -24,13 +24,9 @@ status_of Fails = spec.failed
 status_of (One l) = spec.one (literal_of l)
 status_of (More l) = spec.more (literal_of l)
 
--- a pass so far, held in two numbers: a kind, and the variable to try
-abbrev pub tallied : ℕ → ℕ → Search.Setting → spec.Pass
-tallied zero x v = spec.passed v spec.satisfied
-tallied (suc zero) x v = spec.passed v spec.forced
-tallied (suc (suc zero)) x v = spec.closed
-tallied (suc (suc (suc zero))) x v = spec.passed v (spec.try (pos x))
-tallied (suc (suc (suc (suc k)))) x v = spec.passed v (spec.try (neg x))
-
+-- a pass so far, at the setting where it stands
 abbrev pub tally_at : Tally → Search.Setting → spec.Pass
-tally_at t v = tallied t.kind t.variable v
+tally_at Satisfied v = spec.passed v spec.satisfied
+tally_at Forced v = spec.passed v spec.forced
+tally_at Closed v = spec.closed
+tally_at (Try l) v = spec.passed v (spec.try (literal_of l))

@@ -10,7 +10,7 @@ ghost use Rattle.format.specs.Section.{section};
 ghost use Rattle.passes.specs.Sweep as spec;
 ghost use Rattle.passes.specs.Forms.{entries, status_of, tally_at};
 ghost use Rattle.passes.specs.Seen.{more_places, first_seen, seen_places, FirstInside};
-ghost use Rattle.passes.specs.Places.{Literals, Records, Denials};
+ghost use Rattle.passes.specs.Places.{Literals, Records, Denials, OneBelow};
 
 use crate::values::{set_true, worth};
 use crate::{Status, Tally};
@@ -58,14 +58,9 @@ fn scan(file: &[u8], start: usize, count: usize, values: &[u8; 513]) -> Status
 {
     let mut places: usize = 0;
     let mut first = start;
-    let mut at = start;
-    let mut left = count;
-    while 0 < left {
-        let here = at;
-        let l = literal_at(file, here);
-        let v = worth(values, l);
-        at += 2;
-        left -= 1;
+    for i in 0..count {
+        let here = start + 2 * i;
+        let v = worth(values, literal_at(file, here));
         if v == 1 {
             return Status::Holds;
         }
@@ -78,53 +73,45 @@ fn scan(file: &[u8], start: usize, count: usize, values: &[u8; 513]) -> Status
 }
 
 // After a clause that forces a literal, which is set.
+#[tactic(auto, unfolding(crate::specs::Sweep::met_on, crate::specs::Sweep::met_by))]
 fn forced(t: Tally) -> Tally
     ensures { (l : Meant) (v : Partial) → tally_at result (with_literal v l) ≡ spec.met_on (spec.one l) (tally_at t v) }
 {
-    if t.kind == 2 {
-        return t;
-    }
-    Tally {
-        kind: 1,
-        variable: 0,
+    match t {
+        Tally::Closed => t,
+        Tally::Satisfied | Tally::Forced | Tally::Try(_) => Tally::Forced,
     }
 }
 
 // After a clause with several unset places: rule (d) tries the first unset literal of the first such clause.
+#[tactic(auto, unfolding(crate::specs::Sweep::met_on, crate::specs::Sweep::met_by, crate::specs::Sweep::opened))]
 fn opened(t: Tally, l: Literal) -> Tally
     ensures { (v : Partial) → tally_at result v ≡ spec.met_on (spec.more (literal_of l)) (tally_at t v) }
 {
-    if t.kind != 0 {
-        return t;
-    }
-    match l {
-        Literal::Pos(x) => Tally {
-            kind: 3,
-            variable: x,
-        },
-        Literal::Neg(x) => Tally {
-            kind: 4,
-            variable: x,
-        },
+    match t {
+        Tally::Satisfied => Tally::Try(l),
+        Tally::Forced | Tally::Closed | Tally::Try(_) => t,
     }
 }
 
-// What a pass has found after one clause more.
-fn heard(t: Tally, s: Status) -> Tally
-    ensures { (v : Partial) → tally_at result (spec.set_by (status_of s) v) ≡ spec.met_on (status_of s) (tally_at t v) }
+// A clause is met: a literal that it forces is set at once.
+fn met(t: Tally, s: Status, values: &mut [u8; 513]) -> Tally
+    requires { OneBelow s }
+    ensures { tally_at result (entries values.new) ≡ spec.met_on (status_of s) (tally_at t (entries values.old)) }
 {
     match s {
         Status::Holds => t,
-        Status::Fails => Tally {
-            kind: 2,
-            variable: 0,
-        },
-        Status::One(_) => forced(t),
+        Status::Fails => Tally::Closed,
+        Status::One(l) => {
+            set_true(values, l);
+            forced(t)
+        }
         Status::More(l) => opened(t, l),
     }
 }
 
-// A pass over so many records, one after another.
+// A pass over so many records, one after another. The three passes stay apart: a closure for what stands next would have to promise all that
+// `Records`, marks and `Denials` do, and each turn would call it.
 pub fn sweep_records(
     file: &[u8],
     start: usize,
@@ -137,19 +124,13 @@ pub fn sweep_records(
 {
     let mut tally = t;
     let mut at = start;
-    let mut left = count;
-    while 0 < left {
-        if tally.kind == 2 {
+    for i in 0..count {
+        if let Tally::Closed = tally {
             return tally;
         }
         let len = two_at(file, at);
-        let status = scan(file, at + 4, len / 2, values);
-        tally = heard(tally, status);
-        at = at + 4 + len;
-        left -= 1;
-        if let Status::One(l) = status {
-            set_true(values, l);
-        }
+        tally = met(tally, scan(file, at + 4, len / 2, values), values);
+        at += 4 + len;
     }
     tally
 }
@@ -168,23 +149,16 @@ pub fn sweep_marked(
 {
     let mut tally = t;
     let mut at = start;
-    let mut i = 0;
-    while i < count {
-        if tally.kind == 2 {
+    for i in 0..count {
+        if let Tally::Closed = tally {
             return tally;
         }
         let len = two_at(file, at);
-        let body = at + 4;
         let marked = on[i];
-        at = body + len;
-        i += 1;
         if marked {
-            let status = scan(file, body, len / 2, values);
-            tally = heard(tally, status);
-            if let Status::One(l) = status {
-                set_true(values, l);
-            }
+            tally = met(tally, scan(file, at + 4, len / 2, values), values);
         }
+        at += 4 + len;
     }
     tally
 }
@@ -207,12 +181,12 @@ fn lone(values: &[u8; 513], l: Literal) -> Status
 {
     let v = worth(values, l);
     if v == 0 {
-        return Status::One(l);
+        Status::One(l)
+    } else if v == 1 {
+        Status::Holds
+    } else {
+        Status::Fails
     }
-    if v == 1 {
-        return Status::Holds;
-    }
-    Status::Fails
 }
 
 // A pass over the negations of so many literals, each a clause of its own, with a number added to each variable.
@@ -228,20 +202,12 @@ pub fn sweep_denied(
     ensures { tally_at result (entries values.new) ≡ spec.sweep (denied (map (next added) (literals file.now start count))) (tally_at t (entries values.old)) }
 {
     let mut tally = t;
-    let mut at = start;
-    let mut left = count;
-    while 0 < left {
-        if tally.kind == 2 {
+    for i in 0..count {
+        if let Tally::Closed = tally {
             return tally;
         }
-        let l = denial(literal_at(file, at), added);
-        let status = lone(values, l);
-        tally = heard(tally, status);
-        at += 2;
-        left -= 1;
-        if let Status::One(k) = status {
-            set_true(values, k);
-        }
+        let l = denial(literal_at(file, start + 2 * i), added);
+        tally = met(tally, lone(values, l), values);
     }
     tally
 }

@@ -19,10 +19,11 @@ enum Status {
     More(Literal),
 }
 
-// What a pass has found so far, held in two numbers, so that it runs in registers. The kind: 0, every clause has a true literal; 1, literals were
-// forced, and are set; 2, a clause has only false ones; 3, a variable to try; 4, the negation of one.
+// What a pass has found so far: every clause has a true literal; literals were forced, and are set; a clause has only false ones; a literal to try.
 #[derive(Clone, Copy)]
-pub struct Tally {
-    pub kind: usize,
-    pub variable: usize,
+pub enum Tally {
+    Satisfied,
+    Forced,
+    Closed,
+    Try(Literal),
 }

@@ -12,8 +12,8 @@ use borrow.Author.Tests.{ltb-true, ltb-false, leb-false, eqb-true, eqb-false, ne
 use Rattle.meaning.specs.Clauses.{Clause}
 use Rattle.meaning.specs.File.{Reader, Span, past, at_start, span_at, kind_at, kind_row, row_at, same_kind, body_at, body_length, two_at, body_short, too_many, counts_wrong, is_clause, one_if_clause, clauses_of, of_kind, keep_if, clause_of, n_most, m_most, clauses_most}
 use Rattle.laws.specs.Accepted.{Kept, KindKept, kind_kept}
+use Rattle.format.specs.declared.Section.{Section}
 use Rattle.format.specs.Section.{next_record, clause_at, section, Inside}
-use Rattle.problem.specs.declared.sections.Section.{Section}
 use Rattle.problem.specs.Records.{section_past, no_section}
 
 -- ---- one record more at the end of a section

@@ -1,5 +1,6 @@
 -- What the reader promises, and the laws that its proof leans on.
 pub mod Offences
+pub mod Refusals
 pub mod Records
 pub mod Steps
 pub mod Held

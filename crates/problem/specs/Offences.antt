@@ -1,5 +1,5 @@
 -- The first literal that offends, found from the front.
-use Rattle.std.specs.Prelude.{ℕ, zero, suc, ◌+◌, ◌-◌, ◌*◌, ◌≤◌, ◌<◌, ◌≡◌, Bool, ◌||◌, cond, length}
+use Rattle.std.specs.Prelude.{Option, Some, None, ℕ, zero, suc, ◌+◌, ◌-◌, ◌*◌, ◌≤◌, ◌<◌, ◌≡◌, Bool, ◌||◌, cond, length}
 use native.Mathlib.Omega.{arith}
 use Rattle.std.proofs.Math.Path.{refl, sym, ap}
 use Rattle.std.proofs.Common.{◌∙◌, lt-ltb}
@@ -8,6 +8,11 @@ use mathlib.Core.List.{List, [], ◌∷◌}
 use Rattle.std.proofs.Math.Dec.{ltb, leb-suc-suc}
 use Rattle.meaning.specs.Clauses.{Literal, any}
 use Rattle.meaning.specs.File.{literals, literal_at, offends, before_offence}
+
+-- the place of the first that offends, among the literals: `before_offence` of a number of literals that is not all of them
+abbrev pub FirstOffence : (ℕ → Bool) → List Literal → Option ℕ → Type 0
+FirstOffence may ls None = before_offence may ls ≡ length ls
+FirstOffence may ls (Some i) = (i ≡ before_offence may ls) × (i < length ls)
 
 pub length_literals : (file : List ℕ) (at count : ℕ) → length (literals file at count) ≡ count
 unfolding literals

@@ -1,13 +1,13 @@
 -- What the reader knows between two records, as the definition has it, and where the clauses of each kind stand so far.
-use Rattle.std.specs.Prelude.{ℕ, ◌+◌, ◌≤◌, ◌≡◌, false, cond, List, length, ltb, eqb}
+use Rattle.std.specs.Prelude.{Result, Ok, Err, ℕ, ◌+◌, ◌≤◌, ◌≡◌, false, cond, List, length, ltb, eqb}
 use Rattle.std.proofs.Math.Option.{none, some}
 use Rattle.meaning.specs.File.{Reader, Rule, first_wrong, past, kind_at, body_length, body_at, kind_wrong, length_wrong, row_at, n_most, m_most, clauses_most}
 use Rattle.format.specs.declared.Problem.{Problem}
+use Rattle.format.specs.declared.Section.{Section}
 use Rattle.problem.specs.declared.rules.Cursor.{Cursor}
-use Rattle.problem.specs.declared.rules.Step.{Step}
-use Rattle.problem.specs.declared.rules.Step.TheVariants.{Stop, Past}
-use Rattle.problem.specs.declared.sections.Section.{Section}
+use Rattle.problem.specs.declared.refusal.Refusal.{Refusal}
 use Rattle.problem.specs.declared.sections.Sections.{Sections}
+use Rattle.problem.specs.Refusals.{refusal_of}
 
 -- what is known where a record must start
 abbrev pub reader_of : Cursor → Reader
@@ -38,9 +38,9 @@ pub record Headed (file : List ℕ) (w : Reader) (len kind : ℕ) : Type 0 where
   pub inside : body_at w + body_length file w ≤ length file
 
 -- what the rules of a record come to: the refusal of the first that is broken, or what is known after it
-abbrev pub Stepped : List ℕ → Reader → List Rule → Step → Type 0
-Stepped file w rules (Stop number place) = first_wrong rules ≡ some (record { number = number; place = place })
-Stepped file w rules (Past next) = (first_wrong rules ≡ none) × (reader_of next ≡ past file w)
+abbrev pub Stepped : List ℕ → Reader → List Rule → Result Cursor Refusal → Type 0
+Stepped file w rules (Ok next) = (first_wrong rules ≡ none) × (reader_of next ≡ past file w)
+Stepped file w rules (Err r) = first_wrong rules ≡ some (refusal_of r)
 
 -- the records of a kind after one more record: none yet of a later kind, one more of its own
 unfoldable pub section_past : ℕ → ℕ → ℕ → Section → Section
@@ -77,11 +77,8 @@ problem_from s n m =
       n = n;
       m = m;
       k = s.lemmas.count;
-      init_at = s.init.at;
-      init_count = s.init.count;
-      tr_at = s.tr.at;
-      tr_count = s.tr.count;
-      bad_at = s.bad.at;
-      bad_count = s.bad.count;
+      init = s.init;
+      tr = s.tr;
+      bad = s.bad;
       lemmas_at = s.lemmas.at;
     }

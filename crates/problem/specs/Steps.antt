@@ -1,5 +1,5 @@
 -- One record against its rules: the refusal of the first that is broken, and what the code's values are in the definition's terms.
-use Rattle.std.specs.Prelude.{ℕ, ◌+◌, ◌*◌, ◌%◌, ◌≤◌, ◌<◌, ◌≡◌, refl, Bool, true, false, not, ◌&&◌, ◌||◌, List, length, drop, ltb, eqb}
+use Rattle.std.specs.Prelude.{Result, Ok, Err, ℕ, ◌+◌, ◌*◌, ◌%◌, ◌≤◌, ◌<◌, ◌≡◌, refl, Bool, true, false, not, ◌&&◌, ◌||◌, List, length, drop, ltb, eqb}
 use Rattle.std.proofs.Common.{arith, subst, ◌∙◌}
 use Rattle.std.proofs.Math.Path.{sym, ap}
 use Rattle.std.proofs.Math.Bool.{cond}
@@ -8,8 +8,8 @@ use borrow.Author.Tests.{ltb-false, lt-ltb, le-ltb}
 use Rattle.meaning.specs.Clauses.{any}
 use Rattle.meaning.specs.File.{Reader, Rule, Refusal, Kind, Class, nothing, state, present, every, first_wrong, refuse_if, rule_if, record_rules, head_short, kind_wrong, length_wrong, body_short, too_many, counts_wrong, offends, before_offence, body_names, body_literals, offence_at, past, kind_at, kind_row, kind_table, no_kind, row_at, same_kind, body_at, body_length, two_at, literals, literal_count, names, one_if_clause}
 use Rattle.laws.specs.Accepted.{kind_kept}
-use Rattle.problem.specs.declared.rules.Step.{Step}
-use Rattle.problem.specs.declared.rules.Step.TheVariants.{Stop, Past}
+use Rattle.problem.specs.declared.rules.Cursor.{Cursor}
+use Rattle.problem.specs.declared.refusal.Refusal as Code
 use Rattle.problem.specs.Offences.{any_offends, length_literals}
 use Rattle.problem.specs.Records.{Headed, Stepped}
 
@@ -73,10 +73,10 @@ module _ (file : List ℕ) (w : Reader) where
   body_passes e₁ e₂ e₃ = rw (e₁, e₂, e₃)
 
 -- rules that come to the same take a step to the same
-pub stepped_on : (file : List ℕ) (w : Reader) (rules others : List Rule) (step : Step) → first_wrong rules ≡ first_wrong others
+pub stepped_on : (file : List ℕ) (w : Reader) (rules others : List Rule) (step : Result Cursor Code.Refusal) → first_wrong rules ≡ first_wrong others
     → Stepped file w rules step → Stepped file w others step
-stepped_on file w rules others (Stop number place) e s = sym e ∙ s
-stepped_on file w rules others (Past next) e s = (sym e ∙ s.0, s.1)
+stepped_on file w rules others (Ok next) e s = (sym e ∙ s.0, s.1)
+stepped_on file w rules others (Err r) e s = sym e ∙ s
 
 -- ---- what the code reads of a record whose head is right
 

@@ -4,54 +4,41 @@
 
 use format::Problem;
 
+mod refusal;
 mod rules;
 mod sections;
 
 ghost use Rattle.std.specs.Prelude.{◌≡◌, []};
 ghost use Rattle.meaning.specs.File.{read};
-ghost use Rattle.meaning.specs.Calls.{check_call};
+ghost use Rattle.meaning.specs.Calls.{check_call, refusal};
 ghost use Rattle.problem.specs.Answers.{reading_of_answer, PlacedIf, report_of};
+ghost use Rattle.problem.specs.Refusals.{number_of};
 
-use rules::Step;
-
-// What reading a file answers: an accepted problem, or a refusal with its number and place.
-#[derive(Clone, Copy)]
-pub enum Checked {
-    Accepted(Problem),
-    Refused(u32, usize),
-}
+pub use refusal::{Refusal, Rule};
 
 // 1: file over 65,536 bytes; then record by record; 8: bytes after kind 6.
-pub fn read_problem(file: &[u8]) -> Checked
+pub fn read_problem(file: &[u8]) -> Result<Problem, Refusal>
     ensures { (reading_of_answer file.now result ≡ read file.now) × PlacedIf file.now result }
 {
     if Problem::FILE_MOST < file.len() {
-        return Checked::Refused(1, 0);
+        return Err(Rule::TooLong.at(0));
     }
     let mut w = rules::at_start();
     let mut s = sections::at_start();
-    loop {
-        let step = rules::record_at(file, w);
-        match step {
-            Step::Stop(number, place) => return Checked::Refused(number, place),
-            Step::Past(next) => {
-                let kind = next.before;
-                let at = next.at;
-                s = s.past(kind, at);
-                w = next;
-                if kind == 6 {
-                    if at < file.len() {
-                        return Checked::Refused(8, at);
-                    }
-                    return Checked::Accepted(s.problem(next.n, next.m));
-                }
-            }
-        }
+    // A walk by places that jump, up to the record of kind 6: nothing is counted, so `while` is the plainer word.
+    while w.before != 6 {
+        w = rules::record_at(file, w)?;
+        s = s.past(w.before, w.at);
     }
+    if w.at < file.len() {
+        return Err(Rule::Trailing.at(w.at));
+    }
+    Ok(s.problem(w.n, w.m))
 }
 
-// What every job returns; what is not given for an answer is 0. Number 0: answered, with no refusal.
-#[derive(Clone, Copy)]
+// What every job returns; what is not given for an answer is 0. Number 0: answered, with no refusal. The C interface hands it over word by
+// word, so it holds numbers alone.
+#[derive(Clone, Copy, Default)]
 pub struct Report {
     pub number: u32,
     pub place: usize,
@@ -62,29 +49,41 @@ pub struct Report {
     pub k: usize,
 }
 
+impl Report {
+    // A refusal returns its number, place and decisions and, for a listing, the rows kept, and no n, m or k.
+    #[tactic(auto, unfolding(meaning::specs::Calls::refusal))]
+    pub fn refused(number: u32, place: usize, decisions: usize, rows: usize) -> Report
+        ensures { report_of result ≡ (refusal number place decisions rows []).report }
+    {
+        Report {
+            number,
+            place,
+            decisions,
+            rows,
+            ..Report::default()
+        }
+    }
+}
+
+impl From<Refusal> for Report {
+    ghost from_gives = { λ r report. report_of report ≡ (refusal (number_of r.rule) r.place 0 0 []).report };
+
+    fn from(r: Refusal) -> Report {
+        Report::refused(r.rule.number(), r.place, 0, 0)
+    }
+}
+
 // The checking job writes nothing, counts 0, and returns n, m and k of an accepted file.
 pub fn check(file: &[u8]) -> Report
     ensures { report_of result ≡ (check_call file.now 0 []).report }
 {
-    let read = read_problem(file);
-    match read {
-        Checked::Accepted(p) => Report {
-            number: 0,
-            place: 0,
-            decisions: 0,
-            rows: 0,
+    match read_problem(file) {
+        Ok(p) => Report {
             n: p.n,
             m: p.m,
             k: p.k,
+            ..Report::default()
         },
-        Checked::Refused(number, place) => Report {
-            number,
-            place,
-            decisions: 0,
-            rows: 0,
-            n: 0,
-            m: 0,
-            k: 0,
-        },
+        Err(r) => Report::from(r),
     }
 }

@@ -2,32 +2,24 @@
 ghost use Rattle.std.specs.Prelude.{◌≡◌, ◌≤◌};
 ghost use Rattle.problem.specs.Records.{section_past, sections_past, no_sections, problem_from, Few};
 
-use format::Problem;
+use format::{Problem, Section};
 
-// The records of a kind: where the first starts, and how many they are.
-#[derive(Clone, Copy)]
-pub struct Section {
-    pub at: usize,
-    pub count: usize,
-}
-
-impl Section {
-    // After a record of a kind that ends before `next`: one more of its own kind; of a later kind none yet, from `next` on.
-    fn past(self, own: usize, kind: usize, next: usize) -> Section
-        requires { self.count ≤ Problem.CLAUSES_MOST }
-        ensures { result ≡ section_past own kind next self }
-    {
-        if kind < own {
-            return Section { at: next, count: 0 };
-        }
-        if kind == own {
-            return Section {
-                at: self.at,
-                count: self.count + 1,
-            };
-        }
-        self
+// After a record of a kind that ends before `next`: one more of its own kind; of a later kind none yet, from `next` on.
+#[tactic(auto, unfolding(crate::specs::Records::section_past))]
+fn section_past(s: Section, own: usize, kind: usize, next: usize) -> Section
+    requires { s.count ≤ Problem.CLAUSES_MOST }
+    ensures { result ≡ section_past own kind next s }
+{
+    if kind < own {
+        return Section { at: next, count: 0 };
     }
+    if kind == own {
+        return Section {
+            count: s.count + 1,
+            ..s
+        };
+    }
+    s
 }
 
 // The four kinds of clauses.
@@ -39,6 +31,7 @@ pub struct Sections {
     pub lemmas: Section,
 }
 
+#[tactic(auto, unfolding(crate::specs::Records::no_section, crate::specs::Records::no_sections))]
 pub fn at_start() -> Sections
     ensures { result ≡ no_sections }
 {
@@ -53,23 +46,16 @@ pub fn at_start() -> Sections
 
 impl Sections {
     // After a record of a kind that ends before `next`.
+    #[tactic(auto, unfolding(crate::specs::Records::sections_past))]
     pub fn past(self, kind: usize, next: usize) -> Sections
         requires { Few self }
         ensures { result ≡ sections_past kind next self }
     {
-        let init = self.init;
-        let tr = self.tr;
-        let bad = self.bad;
-        let lemmas = self.lemmas;
-        let init = init.past(2, kind, next);
-        let tr = tr.past(3, kind, next);
-        let bad = bad.past(4, kind, next);
-        let lemmas = lemmas.past(5, kind, next);
         Sections {
-            init,
-            tr,
-            bad,
-            lemmas,
+            init: section_past(self.init, 2, kind, next),
+            tr: section_past(self.tr, 3, kind, next),
+            bad: section_past(self.bad, 4, kind, next),
+            lemmas: section_past(self.lemmas, 5, kind, next),
         }
     }
 
@@ -77,21 +63,14 @@ impl Sections {
     pub fn problem(self, n: usize, m: usize) -> Problem
         ensures { result ≡ problem_from self n m }
     {
-        let init = self.init;
-        let tr = self.tr;
-        let bad = self.bad;
-        let lemmas = self.lemmas;
         Problem {
             n,
             m,
-            k: lemmas.count,
-            init_at: init.at,
-            init_count: init.count,
-            tr_at: tr.at,
-            tr_count: tr.count,
-            bad_at: bad.at,
-            bad_count: bad.count,
-            lemmas_at: lemmas.at,
+            k: self.lemmas.count,
+            init: self.init,
+            tr: self.tr,
+            bad: self.bad,
+            lemmas_at: self.lemmas.at,
         }
     }
 }

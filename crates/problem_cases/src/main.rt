@@ -6,19 +6,9 @@ ghost use Rattle.std.specs.Prelude.{◌≤◌};
 
 use std::io;
 
-fn number(rt: &HostRuntime, x: usize) -> io::Result<()> {
-    print!(rt; " {x}")
-}
-
 fn show(rt: &HostRuntime, name: &str, file: &[u8]) -> io::Result<()> {
     let r = problem::check(file);
-    print!(rt; "{name}")?;
-    number(rt, r.number as usize)?;
-    number(rt, r.place)?;
-    number(rt, r.n)?;
-    number(rt, r.m)?;
-    number(rt, r.k)?;
-    println!(rt; "")
+    println!(rt; "{name} {} {} {} {} {}", r.number, r.place, r.n, r.m, r.k)
 }
 
 // The first bytes of a file.
@@ -37,16 +27,10 @@ fn fill(n: u8, kind: u8, count: usize, file: &mut [u8; 16400])
     file[0] = 4;
     file[2] = 1;
     file[4] = n;
-    let mut i = 0;
-    while i < count {
+    for i in 0..count {
         file[10 + 4 * i] = kind;
-        i += 1;
     }
     file[10 + 4 * count] = 6;
-}
-
-fn show_array(rt: &HostRuntime, name: &str, file: &[u8; 16400], n: usize) -> io::Result<()> {
-    show_front(rt, name, file, n)
 }
 
 fn show_filled(rt: &HostRuntime, name: &str, n: u8, kind: u8, count: usize) -> io::Result<()>
@@ -54,8 +38,7 @@ fn show_filled(rt: &HostRuntime, name: &str, n: u8, kind: u8, count: usize) -> i
 {
     let mut file = [0u8; 16400];
     fill(n, kind, count, &mut file);
-    let end = 12 + 4 * count;
-    show_array(rt, name, &file, end)
+    show_front(rt, name, &file, 12 + 4 * count)
 }
 
 fn main(rt: HostRuntime) -> io::Result<()> {

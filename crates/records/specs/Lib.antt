@@ -1,2 +1,3 @@
 -- What writing into lent bytes leaves there.
 pub mod Put
+pub mod Puts

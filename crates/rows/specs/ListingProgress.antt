@@ -1,43 +1,47 @@
 -- Where a listing stands, and what decisions or a row more make of it.
-use Rattle.std.specs.Prelude.{ℕ, zero, suc, ◌+◌, ◌*◌, ◌≤◌, ◌<◌, ◌≡◌, refl, Bool, true, false, List, [], ◌∷◌, length, ltb}
+use Rattle.std.specs.Prelude.{ℕ, zero, suc, ◌+◌, ◌*◌, ◌≤◌, ◌<◌, ◌≡◌, refl, Bool, true, false, List, [], ◌∷◌, length, ltb, Ok, Err}
 use Rattle.std.proofs.Common.{subst, ◌∙◌, arith, add-zero, add_assoc, mul-suc}
 use Rattle.std.proofs.Math.Path.{ap}
 use Rattle.std.proofs.Math.Bool.{cond}
 use borrow.Author.Tests.{lt-ltb, le-ltb, ltb-true, ltb-false}
+use Rattle.std.specs.declared.result.Result.{Result}
 use Rattle.meaning.specs.Meaning
 use Rattle.meaning.specs.Rules.{Rows, rows_after, no_rows}
 use Rattle.meaning.specs.Calls.{refusal, written}
 use Rattle.laws.specs.Feed
 use Rattle.laws.specs.Feed.{going, stopped, advance, feed, feed_rows, stop_or, feed_after, feed_none}
 use Rattle.rows.specs.declared.found.Progress.{Progress}
-use Rattle.rows.specs.declared.found.Progress.TheVariants.{Going, Spent, Full}
+use Rattle.rows.specs.declared.found.Stop.{Stop}
+use Rattle.rows.specs.declared.found.Stop.TheVariants.{Spent, Full}
+
+-- after so many decisions more
+abbrev pub on_after : Progress → ℕ → Progress
+on_after at d = record { rows = at.rows; used = at.used + d }
 
 -- what stands after the rows so far, or how the call ended
-abbrev pub progress_of : ℕ → List ℕ → Progress → Feed.Progress
-progress_of budget lent (Going r used) = going r used lent
-progress_of budget lent (Spent r) = stopped (refusal 10 0 budget r lent)
-progress_of budget lent (Full r used) = stopped (refusal 12 0 used r lent)
+abbrev pub progress_of : ℕ → List ℕ → Result Progress Stop → Feed.Progress
+progress_of budget lent (Ok at) = going at.rows at.used lent
+progress_of budget lent (Err (Spent r)) = stopped (refusal 10 0 budget r lent)
+progress_of budget lent (Err (Full at)) = stopped (refusal 12 0 at.used at.rows lent)
 
 -- a listing that goes on: the decisions are in the budget, the rows fit; and with no lemma no row was found before
-pub record Ready (k budget : ℕ) (lent : List ℕ) (r used : ℕ) : Type 0 where
-  pub small : budget ≤ 4294967295
-  pub in_budget : used ≤ budget
-  pub fits : r * k ≤ length lent
-  pub first : k ≡ 0 → r ≡ 0
+pub record Ready (k budget : ℕ) (lent : List ℕ) (at : Progress) : Type 0 where
+  pub in_budget : at.used ≤ budget
+  pub fits : at.rows * k ≤ length lent
+  pub first : k ≡ 0 → at.rows ≡ 0
 
-abbrev pub Sound : ℕ → ℕ → ℕ → Progress → Type 0
-Sound k budget room (Going r used) = (used ≤ budget) × (r * k ≤ room)
-Sound k budget room (Spent r) = Unit {0}
-Sound k budget room (Full r used) = Unit {0}
+abbrev pub Sound : ℕ → ℕ → ℕ → Result Progress Stop → Type 0
+Sound k budget room (Ok at) = (at.used ≤ budget) × (at.rows * k ≤ room)
+Sound k budget room (Err s) = Unit {0}
 
 -- a listing stands where it is to stand
-pub record Fed (k budget room : ℕ) (to : Feed.Progress) (after : List ℕ) (s : Progress) : Type 0 where
+pub record Fed (k budget room : ℕ) (to : Feed.Progress) (after : List ℕ) (s : Result Progress Stop) : Type 0 where
   pub is : progress_of budget after s ≡ to
   pub sound : Sound k budget room s
 
--- the rows R were fed to a listing that had r rows and used decisions
-abbrev pub FedBy : ℕ → ℕ → Rows → ℕ → ℕ → List ℕ → List ℕ → Progress → Type 0
-FedBy k budget R r used lent after s = Fed k budget (length lent) (feed k budget R (going r used lent)) after s
+-- the rows R were fed to a listing that stood at a place
+abbrev pub FedBy : ℕ → ℕ → Rows → Progress → List ℕ → List ℕ → Result Progress Stop → Type 0
+FedBy k budget R at lent after s = Fed k budget (length lent) (feed k budget R (going at.rows at.used lent)) after s
 
 -- a row with no decisions of its own
 unfoldable pub one_row : Meaning.Marks → Rows
@@ -114,5 +118,5 @@ rows_below zero r room first h = omega (arith, first refl)
 rows_below (suc k) r room first h = omega (arith, mul-suc r k)
 
 -- the same room
-pub sound_in : (k budget : ℕ) (s : Progress) {room other : ℕ} → room ≡ other → Sound k budget room s → Sound k budget other s
+pub sound_in : (k budget : ℕ) (s : Result Progress Stop) {room other : ℕ} → room ≡ other → Sound k budget room s → Sound k budget other s
 sound_in k budget s e h = subst (λ (n : ℕ). Sound k budget n s) e h

@@ -2,13 +2,20 @@
 use Rattle.std.specs.Prelude.{ℕ, suc, ◌+◌, ◌-◌, ◌≤◌, ◌<◌, ◌≡◌, refl, Bool, length, take, get_or, set}
 use Rattle.std.proofs.Common.{sym, ◌∙◌, arith, zero-add, add-one, length-drop, take-suc, drop-cons, drop-drop, take_all}
 use Rattle.std.proofs.Math.Path.{ap}
-use Rattle.std.proofs.Math.Bool.{false}
+use Rattle.std.proofs.Math.Bool.{true, false}
 use mathlib.Core.List.{List, [], ◌∷◌, ◌++◌, map, map-append, append-nil}
 use Rattle.std.proofs.Math.ListN.{drop}
 use Rattle.std.proofs.lemmas.List.{length-map, set_at}
 use Rattle.std.proofs.Math.Seq.{append_snoc, length-take-le, drop-length}
+use Rattle.std.specs.Int.{from_bool}
 use Rattle.meaning.specs.Meaning
 use Rattle.meaning.specs.Calls.{mark, written}
+
+-- the byte of a mark
+pub mark_byte : (b : Bool) → from_bool b ≡ mark b
+unfolding mark
+mark_byte true = refl
+mark_byte false = refl
 
 -- no mark is written
 pub row_start : (l : Meaning.Marks) (lent : List ℕ) → lent ≡ written 0 (take 0 l) lent

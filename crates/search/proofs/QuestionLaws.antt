@@ -1,5 +1,5 @@
 -- The parts of the three questions: their clauses are the question's, and they can be read where they stand.
-use Prim.Native.Nat.{ℕ, zero, suc, ◌+◌, ◌-◌, ◌*◌, ◌/◌, ◌≤◌, ◌<◌}
+use Prim.Native.Nat.{ℕ, zero, suc, ◌+◌, ◌-◌, ◌/◌, ◌≤◌, ◌<◌}
 use native.Mathlib.Nat.{not-suc-le-zero, le_of_suc-le-suc, zero-add}
 use native.Mathlib.Omega.{arith}
 use mathlib.Core.Path.{◌≡◌, refl, sym, ap, ◌∙◌, subst}
@@ -20,10 +20,11 @@ use Rattle.laws.specs.Questions.{next_within, lemma_within, clauses_within}
 use Rattle.laws.specs.Wider.{wider}
 use Rattle.format.specs.declared.Problem.{Problem}
 use Rattle.format.specs.Section.{next_record, clause_at, section, Inside, problem_at, Placed}
+use Rattle.format.specs.declared.Section.{Section}
 use Rattle.search.specs.declared.Question.TheVariants.{Initiation, Step, Safety}
 use Rattle.search.specs.Engine.{search_at}
-use Rattle.passes.specs.Places.{Records, Denials}
-use Rattle.search.specs.Places.{parts_clauses, place, Asks}
+use Rattle.passes.specs.Places.{Records}
+use Rattle.search.specs.Places.{parts_clauses, place, LemmaAt, Asks}
 use Rattle.passes.proofs.PlaceLaws.{pred_suc, marks_none, half_twice}
 
 pub place_more : (file : List ℕ) (at left : ℕ) → 0 < left → place file at left ≡ place file (next_record file at) (left - 1)
@@ -81,30 +82,30 @@ module _ (file : List ℕ) (p : Problem) (placed : Placed file p) where
   unfolding problem_at width
   width_small = omega (arith, placed.n_in, placed.m_in)
 
-  init_records : Records file p.init_at p.init_count
+  init_records : Records file p.init.at p.init.count
   unfolding problem_at
   init_records =
       record {
         inside = placed.init_in;
-        within = within_wider p.n 512 (omega (arith, n_small)) (section file p.init_at p.init_count) placed.well_formed.init;
+        within = within_wider p.n 512 (omega (arith, n_small)) (section file p.init.at p.init.count) placed.well_formed.init;
       }
 
-  tr_records : Records file p.tr_at p.tr_count
+  tr_records : Records file p.tr.at p.tr.count
   unfolding problem_at
   tr_records =
       record {
         inside = placed.tr_in;
-        within = within_wider (width (problem_at file p)) 512 width_small (section file p.tr_at p.tr_count) placed.well_formed.tr;
+        within = within_wider (width (problem_at file p)) 512 width_small (section file p.tr.at p.tr.count) placed.well_formed.tr;
       }
 
-  bad_records : Records file p.bad_at p.bad_count
+  bad_records : Records file p.bad.at p.bad.count
   unfolding problem_at width
   bad_records =
       record {
         inside = placed.bad_in;
         within =
-            within_wider (width (problem_at file p)) 512 width_small (section file p.bad_at p.bad_count)
-            (present_within p.n p.m (section file p.bad_at p.bad_count) placed.well_formed.bad);
+            within_wider (width (problem_at file p)) 512 width_small (section file p.bad.at p.bad.count)
+            (present_within p.n p.m (section file p.bad.at p.bad.count) placed.well_formed.bad);
       }
 
   lemma_records : Records file p.lemmas_at p.k
@@ -121,107 +122,91 @@ module _ (file : List ℕ) (p : Problem) (placed : Placed file p) where
     unfolding next_record
     lemma_inside = subst (λ (x : ℕ). x + 4 + two_at file x ≤ length file) (sym e) (inside_at file p.lemmas_at p.k d h placed.lemmas_in)
 
-    module _ (count : ℕ) (half : count ≡ two_at file at / 2) where
-      there : literals file (at + 4) count ≡ lemma (problem_at file p) d
-      unfolding problem_at lemma clause_at
-      there =
-          ap (literals file (at + 4)) half
-          ∙ ap (clause_at file) e ∙ sym (clause_there file p.lemmas_at p.k d h)
+    pub lemma_there : (count : ℕ) → count ≡ two_at file at / 2 → LemmaAt file p d (record { at = at + 4; count = count })
+    unfolding problem_at lemma clause_at
+    lemma_there count half =
+        record {
+          inside = omega (arith, lemma_inside, half, half_twice (two_at file at));
+          there =
+              ap (literals file (at + 4)) half
+              ∙ ap (clause_at file) e ∙ sym (clause_there file p.lemmas_at p.k d h);
+        }
 
-      in_file : at + 4 + 2 * count ≤ length file
-      in_file = omega (arith, lemma_inside, half, half_twice (two_at file at))
+  -- the parts of a question about the lemma d, whose literals stand at r
+  module _ (d : ℕ) (r : Section) (is : LemmaAt file p d r) where
+    here_within : ClauseWithin p.n (literals file r.at r.count)
+    unfolding problem_at
+    here_within = subst (ClauseWithin p.n) (sym is.there) (lemma_within (problem_at file p) placed.well_formed d)
 
-      here_within : ClauseWithin p.n (literals file (at + 4) count)
-      unfolding problem_at
-      here_within = subst (ClauseWithin p.n) (sym there) (lemma_within (problem_at file p) placed.well_formed d)
+    pub initiation_parts : Asks file p (Initiation d) (record {
+      first = record { at = p.init.at; count = p.init.count };
+      lemmas = record { at = 0; count = 0 };
+      last = record { at = 0; count = 0 };
+      denied = r;
+      added = 0;
+    })
+    unfolding parts_clauses clauses problem_at section
+    initiation_parts =
+        record {
+          sound =
+              record {
+                first = init_records;
+                lemmas = no_records file;
+                few = omega arith;
+                last = no_records file;
+                deny =
+                    record {
+                      inside = is.inside;
+                      within =
+                          subst (ClauseWithin 512) (sym (next_zero (literals file r.at r.count)))
+                          (clause_wider p.n 512 (omega (arith, n_small)) (literals file r.at r.count) here_within);
+                    };
+              };
+          same =
+              λ on.
+              ap (λ (cs : List Clause). section file p.init.at p.init.count ++ cs)
+              (ap (λ (cs : List Clause). cs ++ denied (map (next 0) (literals file r.at r.count))) (marks_none on)
+              ∙ ap denied (next_zero (literals file r.at r.count) ∙ is.there));
+        }
 
-      denials_now : Denials file (at + 4) count 0
-      denials_now =
-          record {
-            inside = in_file;
-            within =
-                subst (ClauseWithin 512) (sym (next_zero (literals file (at + 4) count)))
-                (clause_wider p.n 512 (omega (arith, n_small)) (literals file (at + 4) count) here_within);
-          }
-
-      denials_next : Denials file (at + 4) count p.n
-      denials_next =
-          record {
-            inside = in_file;
-            within =
-                clause_wider (p.n + p.n) 512 (omega (arith, n_small)) (map (next p.n) (literals file (at + 4) count))
-                (next_within p.n (literals file (at + 4) count) here_within);
-          }
-
-      pub initiation_parts : Asks file p (Initiation d) (record {
-        first_at = p.init_at;
-        first_count = p.init_count;
-        lemmas_at = 0;
-        lemmas_count = 0;
-        last_at = 0;
-        last_count = 0;
-        denied_at = at + 4;
-        denied_count = count;
-        added = 0;
-      })
-      unfolding parts_clauses clauses problem_at section
-      initiation_parts =
-          record {
-            sound =
-                record {
-                  first = init_records;
-                  lemmas = no_records file;
-                  few = omega arith;
-                  last = no_records file;
-                  deny = denials_now;
-                };
-            same =
-                λ on.
-                ap (λ (cs : List Clause). section file p.init_at p.init_count ++ cs)
-                (ap (λ (cs : List Clause). cs ++ denied (map (next 0) (literals file (at + 4) count))) (marks_none on)
-                ∙ ap denied (next_zero (literals file (at + 4) count) ∙ there));
-          }
-
-      pub step_parts : Asks file p (Step d) (record {
-        first_at = p.tr_at;
-        first_count = p.tr_count;
-        lemmas_at = p.lemmas_at;
-        lemmas_count = p.k;
-        last_at = 0;
-        last_count = 0;
-        denied_at = at + 4;
-        denied_count = count;
-        added = p.n;
-      })
-      unfolding parts_clauses clauses problem_at section lemmas_of
-      step_parts =
-          record {
-            sound =
-                record {
-                  first = tr_records;
-                  lemmas = lemma_records;
-                  few = placed.k_in;
-                  last = no_records file;
-                  deny = denials_next;
-                };
-            same =
-                λ on.
-                ap (λ (cs : List Clause). section file p.tr_at p.tr_count ++ (cs ++ denied (map (next p.n) (literals file (at + 4) count))))
-                (marks_enough file p.lemmas_at p.k on)
-                ∙ ap (λ (c : Clause).
-                section file p.tr_at p.tr_count
-                ++ (at_marks (take p.k on) (section file p.lemmas_at p.k) ++ denied (map (next p.n) c))) there;
-          }
+    pub step_parts : Asks file p (Step d) (record {
+      first = record { at = p.tr.at; count = p.tr.count };
+      lemmas = record { at = p.lemmas_at; count = p.k };
+      last = record { at = 0; count = 0 };
+      denied = r;
+      added = p.n;
+    })
+    unfolding parts_clauses clauses problem_at section lemmas_of
+    step_parts =
+        record {
+          sound =
+              record {
+                first = tr_records;
+                lemmas = lemma_records;
+                few = placed.k_in;
+                last = no_records file;
+                deny =
+                    record {
+                      inside = is.inside;
+                      within =
+                          clause_wider (p.n + p.n) 512 (omega (arith, n_small)) (map (next p.n) (literals file r.at r.count))
+                          (next_within p.n (literals file r.at r.count) here_within);
+                    };
+              };
+          same =
+              λ on.
+              ap (λ (cs : List Clause). section file p.tr.at p.tr.count ++ (cs ++ denied (map (next p.n) (literals file r.at r.count))))
+              (marks_enough file p.lemmas_at p.k on)
+              ∙ ap (λ (c : Clause).
+              section file p.tr.at p.tr.count
+              ++ (at_marks (take p.k on) (section file p.lemmas_at p.k) ++ denied (map (next p.n) c))) is.there;
+        }
 
   pub safety_parts : Asks file p Safety (record {
-    first_at = 0;
-    first_count = 0;
-    lemmas_at = p.lemmas_at;
-    lemmas_count = p.k;
-    last_at = p.bad_at;
-    last_count = p.bad_count;
-    denied_at = 0;
-    denied_count = 0;
+    first = record { at = 0; count = 0 };
+    lemmas = record { at = p.lemmas_at; count = p.k };
+    last = record { at = p.bad.at; count = p.bad.count };
+    denied = record { at = 0; count = 0 };
     added = 0;
   })
   unfolding parts_clauses clauses problem_at section lemmas_of literals denied
@@ -237,9 +222,9 @@ module _ (file : List ℕ) (p : Problem) (placed : Placed file p) where
             };
         same =
             λ on.
-            ap (λ (cs : List Clause). cs ++ (section file p.bad_at p.bad_count ++ [])) (marks_enough file p.lemmas_at p.k on)
+            ap (λ (cs : List Clause). cs ++ (section file p.bad.at p.bad.count ++ [])) (marks_enough file p.lemmas_at p.k on)
             ∙ ap (λ (cs : List Clause). at_marks (take p.k on) (section file p.lemmas_at p.k) ++ cs)
-            (append-nil (section file p.bad_at p.bad_count));
+            (append-nil (section file p.bad.at p.bad.count));
       }
 
   -- the search of a question over all 512 variables answers it

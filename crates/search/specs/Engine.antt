@@ -3,7 +3,13 @@ use Rattle.std.specs.Prelude.{◌<◌, ◌≡◌, List, length}
 use Rattle.meaning.specs.Clauses.{Literal, Clause, variable, negation}
 use Rattle.meaning.specs.Search.{Setting, with_literal, Ending, can, cannot, then_false, search_from}
 use Rattle.laws.specs.Setting.{unset_count}
+use Rattle.search.specs.declared.clauses.Clauses.{Clauses}
+use Rattle.search.specs.Places.{parts_clauses}
 use Rattle.passes.specs.Sweep.{Pass, closed, passed, satisfied, forced, try}
+
+-- the clauses that a search is about
+abbrev pub clauses_of : Clauses → List Clause
+clauses_of q = parts_clauses q.file.now q.on.now q.parts
 
 -- the search from a setting, with fuel for all that it leaves unset
 unfoldable pub search_at : List Clause → Setting → Ending

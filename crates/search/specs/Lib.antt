@@ -2,3 +2,4 @@
 pub mod Forms
 pub mod Engine
 pub mod Places
+pub mod Standing

@@ -1,65 +1,40 @@
 // The search: forced literals are set until none is left, and then a literal is tried true and, if that branch closes, false.
-ghost use Rattle.std.specs.Prelude.{◌≡◌, length};
+ghost use Rattle.std.specs.Prelude.{◌≡◌};
 ghost use Rattle.meaning.specs.Clauses.{negation};
 ghost use Rattle.meaning.specs.Rules.{answer};
 ghost use Rattle.meaning.specs.Search.{Setting as Partial};
 ghost use Rattle.format.specs.Forms.{literal_of};
 ghost use Rattle.passes.specs.Sweep.{passed, satisfied, sweep};
 ghost use Rattle.passes.specs.Forms.{entries, tally_at};
-ghost use Rattle.search.specs.Forms.{setting_of, pass_at, ended_by, bounded, later, Counts};
-ghost use Rattle.search.specs.Engine.{search_at, Ready};
-ghost use Rattle.search.specs.Places.{Sound, parts_clauses};
+ghost use Rattle.search.specs.Forms.{setting_of, ended_by, bounded};
+ghost use Rattle.search.specs.Engine.{clauses_of, search_at, Ready};
 
-use crate::{Found, Next, Parts, Setting};
+use crate::clauses::Clauses;
+use crate::{Answer, Setting, Spent};
 use format::Literal;
 use passes::{Tally, sweep_denied, sweep_marked, sweep_records};
 
 // A pass over all clauses of a question, in the question's order.
-fn sweep_all(file: &[u8], on: &[bool; 128], q: Parts, values: &mut [u8; 513]) -> Tally
-    requires { Sound file.now q }
-    ensures { tally_at result (entries values.new)
-        ≡ sweep (parts_clauses file.now on.now q) (passed (entries values.old) satisfied) }
+fn sweep_all(q: &Clauses<'_>, values: &mut [u8; 513]) -> Tally
+    ensures { tally_at result (entries values.new) ≡ sweep (clauses_of q.now) (passed (entries values.old) satisfied) }
 {
-    let start = Tally {
-        kind: 0,
-        variable: 0,
-    };
-    let first = sweep_records(file, q.first_at, q.first_count, values, start);
-    let lemmas = sweep_marked(file, on, q.lemmas_at, q.lemmas_count, values, first);
-    let last = sweep_records(file, q.last_at, q.last_count, values, lemmas);
-    sweep_denied(file, q.denied_at, q.denied_count, q.added, values, last)
-}
-
-// What a pass has found, by name.
-fn named(t: Tally) -> Next
-    ensures { (v : Partial) → pass_at result v ≡ tally_at t v }
-{
-    let x = t.variable;
-    if t.kind == 0 {
-        return Next::Satisfied;
-    }
-    if t.kind == 1 {
-        return Next::Forced;
-    }
-    if t.kind == 2 {
-        return Next::Closed;
-    }
-    if t.kind == 3 {
-        return Next::Try(Literal::Pos(x));
-    }
-    Next::Try(Literal::Neg(x))
+    let p = &q.parts;
+    let start = Tally::Satisfied;
+    let first = sweep_records(q.file, p.first.at, p.first.count, values, start);
+    let lemmas = sweep_marked(q.file, q.on, p.lemmas.at, p.lemmas.count, values, first);
+    let last = sweep_records(q.file, p.last.at, p.last.count, values, lemmas);
+    sweep_denied(q.file, p.denied.at, p.denied.count, p.added, values, last)
 }
 
 // Rule (c), as long as it serves: a clause with no true literal and exactly one place holding an unset literal has that literal set true, not
 // counted. Forced literals may be set in any order, so a pass sets all that it meets; the last pass forces none.
-fn propagate(file: &[u8], on: &[bool; 128], q: Parts, values: &mut [u8; 513]) -> Next
-    requires { Sound file.now q × (length (entries values.old) ≡ 513) }
-    ensures { Ready (parts_clauses file.now on.now q) (entries values.old) (pass_at result (entries values.new)) }
+fn propagate(q: &Clauses<'_>, values: &mut [u8; 513]) -> Tally
+    ensures { Ready (clauses_of q.now) (entries values.old) (tally_at result (entries values.new)) }
 {
+    // no `for`: nothing is counted, and the passes end where one forces none
     loop {
-        let t = sweep_all(file, on, q, values);
-        let next = named(t);
-        let Next::Forced = next else {
+        let next = sweep_all(q, values);
+        let Tally::Forced = next else {
             return next;
         };
     }
@@ -75,51 +50,35 @@ fn negated(l: Literal) -> Literal
 }
 
 // The answer at a setting where nothing is left to try: by rule (b) every clause has a true literal, or by rule (a) one has only false ones.
-fn ended(n: Next) -> Found
-    ensures { result ≡ ended_by n }
+fn ended(t: Tally) -> Answer
+    ensures { result ≡ ended_by t }
 {
-    match n {
-        Next::Satisfied => Found::Yes(0),
-        Next::Try(_) => Found::No(0),
-        Next::Forced => Found::No(0),
-        Next::Closed => Found::No(0),
-    }
-}
-
-// An answer after so many decisions more.
-fn counted(f: Found, more: u64) -> Found
-    requires { Counts more f }
-    ensures { result ≡ later more f }
-{
-    match f {
-        Found::Yes(d) => Found::Yes(more + d),
-        Found::No(d) => Found::No(more + d),
-        Found::Spent => Found::Spent,
+    match t {
+        Tally::Satisfied => Answer::Yes(0),
+        Tally::Try(_) | Tally::Forced | Tally::Closed => Answer::No(0),
     }
 }
 
 // The search from a setting. Rule (d): try the literal true, then, if that branch closes, false, from the setting as it stood before. Each try is
 // one decision, and a decision wanted when the budget is used up ends the search.
-pub fn decide(file: &[u8], on: &[bool; 128], q: Parts, start: Setting, left: u64) -> Found
-    requires { Sound file.now q × (length (setting_of start) ≡ 513) }
-    ensures { result ≡ bounded left (answer (search_at (parts_clauses file.now on.now q) (setting_of start))) }
+pub fn decide(q: &Clauses<'_>, start: Setting, left: u64) -> Result<Answer, Spent>
+    ensures { result ≡ bounded left (answer (search_at (clauses_of q.now) (setting_of start))) }
 {
     let mut setting = start;
-    let next = propagate(file, on, q, &mut setting.values);
-    let Next::Try(l) = next else {
-        return ended(next);
+    let next = propagate(q, &mut setting.values);
+    let Tally::Try(l) = next else {
+        return Ok(ended(next));
     };
-    let other = negated(l);
     if left == 0 {
-        return Found::Spent;
+        return Err(Spent);
     }
-    let yes = decide(file, on, q, setting.with(l), left - 1);
-    let Found::No(used) = yes else {
-        return counted(yes, 1);
+    let yes = decide(q, setting.with(l), left - 1)?;
+    let Answer::No(used) = yes else {
+        return Ok(yes.after(1));
     };
     if left - 1 == used {
-        return Found::Spent;
+        return Err(Spent);
     }
-    let no = decide(file, on, q, setting.with(other), left - 2 - used);
-    counted(no, used + 2)
+    let no = decide(q, setting.with(negated(l)), left - 2 - used)?;
+    Ok(no.after(used + 2))
 }

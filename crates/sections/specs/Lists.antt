@@ -1,7 +1,7 @@
 -- So many lines from a place on, whatever they hold; what each starts with where it is a line of numbers.
 use Prim.Native.Nat.{ℕ, zero, suc, ◌+◌, ◌-◌, ◌≤◌, ◌<◌}
-use Rattle.std.proofs.Common.{arith, sym, subst, ◌∙◌, inl, inr, true≢false, lt-ltb, ltb-true, ltb-false, eqb-true}
-use Rattle.std.specs.Prelude.{◌≡◌, ◌⊎◌, Bool, true, false, ◌||◌, cond, length, drop, ltb, eqb}
+use Rattle.std.proofs.Common.{arith, sym, subst, ◌∙◌, inl, inr, true≢false, lt-ltb, le-ltb, ltb-true, ltb-false, eqb-true}
+use Rattle.std.specs.Prelude.{◌≡◌, ◌⊎◌, Bool, true, false, ◌||◌, cond, length, drop, ltb, eqb, Option, Some, None, is_some, unwrap_or, IfSome}
 use Rattle.std.proofs.Math.Path.{refl, ap}
 use mathlib.Core.List.{List, [], ◌∷◌, ◌++◌, map, append-nil}
 use Rattle.std.proofs.Math.ListN.{get_or}
@@ -15,7 +15,8 @@ use Rattle.meaning.specs.Built.{position, among}
 use Rattle.meaning.specs.CircuitText.{Line, numbers_at, at_number, defined_in}
 use Rattle.laws.specs.Basics.{bool_cases}
 use Rattle.lines.specs.declared.number.Number.{Number}
-use Rattle.lines.specs.Numbers.{digits_of, span, worth, Stands}
+use Rattle.lines.specs.Digits.{digits_of}
+use Rattle.lines.specs.Numbers.{worth}
 use Rattle.lines.specs.Past.{words_last, words_space, words_other, line_number, line_past_end, words_digits}
 use Rattle.sections.specs.declared.find.Lines.{Lines}
 
@@ -46,6 +47,35 @@ variables_of text s = defined_in (first_lines text s.at s.count)
 
 -- ---- positions
 
+-- the position of a variable among some, if it is one of them
+unfoldable pub found_at : ℕ → List ℕ → Option ℕ
+found_at u us = cond (among u us) (Some (position u us)) None
+
+pub found_among : (u : ℕ) (us : List ℕ) → is_some (found_at u us) ≡ among u us
+unfolding found_at
+found_among u us = go (among u us)
+  where
+    go : (b : Bool) → is_some (cond b (Some (position u us)) None) ≡ b
+    go true = refl
+    go false = refl
+
+-- what finding one, or none, says
+pub found_some : (u : ℕ) (us : List ℕ) (i : ℕ) → Some i ≡ found_at u us → (among u us ≡ true) × (i ≡ position u us)
+unfolding found_at
+found_some u us i is = go (among u us) refl is
+  where
+    go : (b : Bool) → among u us ≡ b → Some i ≡ cond b (Some (position u us)) None → (among u us ≡ true) × (i ≡ position u us)
+    go true t e = (t, cc)
+    go false t e = absurd (cc)
+
+pub found_none : (u : ℕ) (us : List ℕ) → None ≡ found_at u us → among u us ≡ false
+unfolding found_at
+found_none u us is = go (among u us) refl is
+  where
+    go : (b : Bool) → among u us ≡ b → None ≡ cond b (Some (position u us)) None → among u us ≡ false
+    go true t e = absurd (cc)
+    go false t e = t
+
 pub among_position : (u : ℕ) (us : List ℕ) → ltb (position u us) (length us) ≡ among u us
 unfolding position among any
 among_position u [] = refl
@@ -58,38 +88,37 @@ among_position u (v ∷ us) = go (eqb u v) (among_position u us)
 
 -- ---- a number at the start of a line of numbers
 
-module _ (text : List ℕ) (at : ℕ) (x : Number) (stands : Stands text x) (start : x.start ≡ at)
-    (whole : span text x ≡ digits_of (drop at text)) where
-  pub first_word_is : all is_number (words (line_at text at)) ≡ true → (ws : List (List ℕ)) × (words (line_at text at) ≡ (span text x ∷ ws))
+module _ (text : List ℕ) (at : ℕ) (x : Number) (whole : x.digits.now ≡ digits_of (drop at text)) where
+  pub first_word_is : all is_number (words (line_at text at)) ≡ true → (ws : List (List ℕ)) × (words (line_at text at) ≡ (x.digits.now ∷ ws))
   unfolding words
-  first_word_is h = inside_or (bool_cases (ltb x.end (length text)))
+  first_word_is h = inside_or (bool_cases (ltb (at + length x.digits.now) (length text)))
     where
       Found : Type 0
-      Found = (ws : List (List ℕ)) × (words (line_at text at) ≡ (span text x ∷ ws))
+      Found = (ws : List (List ℕ)) × (words (line_at text at) ≡ (x.digits.now ∷ ws))
 
-      by_byte : x.end < length text
-          → (eqb (get_or text x.end 0) newline ≡ true) ⊎ (eqb (get_or text x.end 0) newline ≡ false)
-          → (eqb (get_or text x.end 0) space ≡ true) ⊎ (eqb (get_or text x.end 0) space ≡ false) → Found
-      by_byte inside (inl t) b = ([], words_last text at x stands start whole inside (eqb-true _ _ t))
+      by_byte : (at + length x.digits.now) < length text
+          → (eqb (get_or text (at + length x.digits.now) 0) newline ≡ true) ⊎ (eqb (get_or text (at + length x.digits.now) 0) newline ≡ false)
+          → (eqb (get_or text (at + length x.digits.now) 0) space ≡ true) ⊎ (eqb (get_or text (at + length x.digits.now) 0) space ≡ false) → Found
+      by_byte inside (inl t) b = ([], words_last text at x whole inside (eqb-true _ _ t))
       by_byte inside (inr t) (inl u) =
-          (words (line_at text (x.end + 1)), words_space text at x stands start whole inside (eqb-true _ _ u))
+          (words (line_at text ((at + length x.digits.now) + 1)), words_space text at x whole inside (eqb-true _ _ u))
       by_byte inside (inr t) (inr u) =
-          absurd (true≢false (sym h ∙ words_other text at x stands start whole inside (eqb-false _ _ t) (eqb-false _ _ u)))
+          absurd (true≢false (sym h ∙ words_other text at x whole inside (eqb-false _ _ t) (eqb-false _ _ u)))
 
-      inside_or : (ltb x.end (length text) ≡ true) ⊎ (ltb x.end (length text) ≡ false) → Found
+      inside_or : (ltb (at + length x.digits.now) (length text) ≡ true) ⊎ (ltb (at + length x.digits.now) (length text) ≡ false) → Found
       inside_or (inl t) =
-          by_byte (ltb-true x.end (length text) t) (bool_cases (eqb (get_or text x.end 0) newline))
-          (bool_cases (eqb (get_or text x.end 0) space))
+          by_byte (ltb-true (at + length x.digits.now) (length text) t) (bool_cases (eqb (get_or text (at + length x.digits.now) 0) newline))
+          (bool_cases (eqb (get_or text (at + length x.digits.now) 0) space))
       inside_or (inr t) = (
         [],
-        ap words (line_number text at x stands start whole)
-            ∙ words_digits (span text x) (line_at text x.end) [] [] stands.digits
-            (ap words (line_past_end text x.end (ltb-false x.end (length text) t)))
-            ∙ ap (λ (w : List ℕ). w ∷ []) (append-nil (span text x)),
+        ap words (line_number text at x whole)
+            ∙ words_digits x.digits.now (line_at text (at + length x.digits.now)) [] [] x.digital
+            (ap words (line_past_end text (at + length x.digits.now) (ltb-false (at + length x.digits.now) (length text) t)))
+            ∙ ap (λ (w : List ℕ). w ∷ []) (append-nil x.digits.now),
       )
 
   -- what the line defines is the variable of that number
-  pub first_number_is : all is_number (words (line_at text at)) ≡ true → get_or (numbers_at text at) 0 0 ≡ worth text x
+  pub first_number_is : all is_number (words (line_at text at)) ≡ true → get_or (numbers_at text at) 0 0 ≡ worth x
   unfolding numbers_at worth
   first_number_is h = let found = first_word_is h in ap (λ (l : List (List ℕ)). get_or (map decimal l) 0 0) found.1
 
@@ -166,3 +195,38 @@ defines_is text s u r is =
     ap (λ (k : ℕ). ltb k s.count) is
     ∙ ap (ltb (position u (variables_of text s))) (sym (variables_length text s))
     ∙ among_position u (variables_of text s)
+
+-- where none is found the position is the number of lines
+pub nowhere : (text : List ℕ) (s : Lines) (u : ℕ) → None ≡ found_at u (variables_of text s) → position u (variables_of text s) ≡ s.count
+unfolding position among any
+nowhere text s u is =
+    past_all (variables_of text s) (found_none u (variables_of text s) is) ∙ variables_length text s
+  where
+    past_all : (us : List ℕ) → among u us ≡ false → position u us ≡ length us
+    past_all [] e = refl
+    past_all (v ∷ us) e = go (eqb u v) e (past_all us)
+      where
+        go : (b : Bool) → (b || any (eqb u) us) ≡ false → (any (eqb u) us ≡ false → position u us ≡ length us)
+            → cond b 0 (suc (position u us)) ≡ suc (length us)
+        go true h on = absurd (true≢false h)
+        go false h on = ap suc (on h)
+
+pub found_or : (text : List ℕ) (s : Lines) (u : ℕ) (r : Option ℕ) → r ≡ found_at u (variables_of text s)
+    → unwrap_or r s.count ≡ position u (variables_of text s)
+found_or text s u None is = sym (nowhere text s u is)
+found_or text s u (Some i) is = (found_some u (variables_of text s) i is).1
+
+pub found_most : (r : Option ℕ) (n : ℕ) → IfSome r (λ i. i < n) → unwrap_or r n ≤ n
+found_most None n h = omega arith
+found_most (Some i) n h = omega (arith, h)
+
+-- the position below the number of lines is where it is found
+pub found_below : (text : List ℕ) (s : Lines) (u i : ℕ) → i ≡ position u (variables_of text s) → i < s.count
+    → Some i ≡ found_at u (variables_of text s)
+unfolding found_at
+found_below text s u i is less = sym (rw (sym (defines_is text s u i is) ∙ lt-ltb i s.count less) (ap Some (sym is)))
+
+pub found_past : (text : List ℕ) (s : Lines) (u i : ℕ) → i ≡ position u (variables_of text s) → s.count ≤ i
+    → None ≡ found_at u (variables_of text s)
+unfolding found_at
+found_past text s u i is past = sym (rw (sym (defines_is text s u i is) ∙ le-ltb i s.count past))

@@ -1,5 +1,5 @@
 -- A section, as far as it is read: how it ends is how the rest of it ends.
-use Rattle.std.specs.Prelude.{ℕ, suc, ◌+◌, ◌-◌, ◌*◌, ◌≤◌, ◌<◌, ◌≡◌, ◌⊎◌, Bool, length, get_or, ltb, leb}
+use Rattle.std.specs.Prelude.{ℕ, suc, ◌+◌, ◌-◌, ◌*◌, ◌≤◌, ◌<◌, ◌≡◌, ◌⊎◌, Bool, length, get_or, ltb, leb, Option, Some, None, Result, Ok, Err, ok_or}
 use native.Mathlib.Omega.{arith}
 use Rattle.std.proofs.Common.{add-one, ◌∙◌, inl, inr, true≢false, ltb-true, ltb-false, leb-true, leb-false}
 use Rattle.std.proofs.Math.Path.{refl, sym, ap, subst}
@@ -14,14 +14,15 @@ use Rattle.lines.specs.Numbers.{huge, capped}
 use Rattle.lines.specs.Literals.{capped_below}
 use Rattle.sections.specs.declared.find.Lines.{Lines}
 use Rattle.sections.specs.declared.line.Form.{Form}
-use Rattle.sections.specs.declared.read.Ended.{Ended}
+use Rattle.lines.specs.declared.fault.Fault.{Fault}
 use Rattle.sections.specs.Lists.{first_lines, line_after, Numbered, Placed, variables_of, lines_more, after_more, numbered_more}
 use Rattle.sections.specs.Rows.{form_of, before_of}
 use Rattle.sections.specs.SectionLines.{Row, right_row}
 
-unfoldable pub ended_as : Section → Ended
-ended_as (fault at) = record { fault = true; at = at }
-ended_as (lines ls next) = record { fault = false; at = next }
+-- how a section ends: where the next line starts, or the first line at fault
+unfoldable pub ended_as : Section → Result ℕ Fault
+ended_as (fault at) = Err (record { at = at })
+ended_as (lines ls next) = Ok next
 
 line_and_ends : (l : Line) (s : Section) → ended_as (line_and l s) ≡ ended_as s
 unfolding ended_as line_and
@@ -99,7 +100,7 @@ module _ (text : List ℕ) (f : Form) (judged : Bool) (m : ℕ) (before : List �
       }
 
   module _ {count p i : ℕ} (g : Going count p i) where
-    pub going_end : count ≡ i → record { fault = false; at = p } ≡ ended_as (section (form_of f) judged m text count before at)
+    pub going_end : count ≡ i → Ok p ≡ ended_as (section (form_of f) judged m text count before at)
     unfolding section ended_as
     going_end e =
         sym (g.ends ∙ ap (λ (k : ℕ). ended_as (section (form_of f) judged m text k (before_line text at f.defines before i) p)) (none e))
@@ -116,7 +117,7 @@ module _ (text : List ℕ) (f : Form) (judged : Bool) (m : ℕ) (before : List �
           up h = omega arith
 
       pub going_wrong : line_right (form_of f) judged m (before_line text at f.defines before i) text p ≡ false
-          → record { fault = true; at = p } ≡ ended_as (section (form_of f) judged m text count before at)
+          → Err (record { at = p }) ≡ ended_as (section (form_of f) judged m text count before at)
       unfolding section if_right ended_as
       going_wrong wrong = sym (g.ends ∙ ap ended_as one_left ∙ rw wrong)
 
@@ -153,11 +154,23 @@ module _ (text : List ℕ) (f : Form) (judged : Bool) (m : ℕ) (before : List �
               low = omega arith;
             }
 
--- what the next line's start tells: 0 that the line is at fault
-next_said : (b : Bool) (text : List ℕ) (p r : ℕ) → r ≡ cond b (next_line text p) 0 → (r ≡ 0 → b ≡ false) × ((r ≡ 0 → ⊥) → (b ≡ true) × (r ≡ next_line text p))
-unfolding next_line
-next_said true text p r is = (λ e. absurd (omega (arith, is, e)), λ other. (refl, is))
-next_said false text p r is = (λ e. refl, λ other. absurd (other is))
+-- what the next line's start tells, and that there is none: that the line is at fault
+next_none : (b : Bool) (text : List ℕ) (p : ℕ) → None ≡ cond b (Some (next_line text p)) None → b ≡ false
+next_none true text p is = absurd (cc)
+next_none false text p is = refl
+
+next_some : (b : Bool) (text : List ℕ) (p q : ℕ) → Some q ≡ cond b (Some (next_line text p)) None → (b ≡ true) × (q ≡ next_line text p)
+next_some true text p q is = (refl, cc)
+next_some false text p q is = absurd (cc)
+
+-- the same of what the code returns for it
+pub fault_none : (r : Option ℕ) (f e : Fault) → ◌≡◌ {A = Result ℕ Fault} (Err e) (ok_or r f) → (r ≡ None) × (e ≡ f)
+fault_none None f e is = (refl, cc)
+fault_none (Some q) f e is = absurd (cc)
+
+pub fault_some : (r : Option ℕ) (f : Fault) (q : ℕ) → ◌≡◌ {A = Result ℕ Fault} (Ok q) (ok_or r f) → r ≡ Some q
+fault_some None f q is = absurd (cc)
+fault_some (Some p) f q is = cc
 
 -- ---- what the code has before a line is that
 
@@ -217,26 +230,25 @@ capped_huge n = go (bool_cases (leb huge n))
 
 -- ---- the same, with what the code has
 
-module _ (text : List ℕ) (f : Form) (judged : Bool) (m : ℕ) (inputs latches : Lines) (at p i own r : ℕ) (least : 1 ≤ f.width)
+module _ (text : List ℕ) (f : Form) (judged : Bool) (m : ℕ) (inputs latches : Lines) (at p i own : ℕ) (r : Option ℕ)
     (own_is : own ≡ own_count f.defines i)
-    (r_is : r ≡ cond (line_right (form_of f) judged m (before_of text (record { inputs = inputs; latches = latches; own = record { at = at; count = own } })) text p) (next_line text p) 0)
+    (r_is : r ≡ cond (line_right (form_of f) judged m (before_of text (record { inputs = inputs; latches = latches; own = record { at = at; count = own } })) text p) (Some (next_line text p)) None)
   where
-    said : (r ≡ 0 → line_right (form_of f) judged m (before_line text at f.defines (variables_of text inputs ++ variables_of text latches) i) text p ≡ false)
-        × ((r ≡ 0 → ⊥)
-        → (line_right (form_of f) judged m (before_line text at f.defines (variables_of text inputs ++ variables_of text latches) i) text p ≡ true)
-        × (r ≡ next_line text p))
+    said : r
+        ≡ cond (line_right (form_of f) judged m (before_line text at f.defines (variables_of text inputs ++ variables_of text latches) i) text p)
+        (Some (next_line text p)) None
     said =
-        next_said _ text p r
-        (r_is
-        ∙ ap (λ (b : List ℕ). cond (line_right (form_of f) judged m b text p) (next_line text p) 0)
-        (before_is text at inputs latches f.defines i own own_is))
+        r_is
+        ∙ ap (λ (b : List ℕ). cond (line_right (form_of f) judged m b text p) (Some (next_line text p)) None)
+        (before_is text at inputs latches f.defines i own own_is)
 
     module _ (n : ℕ) (less : i < n) (g : Going text f judged m (variables_of text inputs ++ variables_of text latches) at n p i) where
-      pub section_wrong : r ≡ 0
-          → record { fault = true; at = p }
-          ≡ ended_as (section (form_of f) judged m text n (variables_of text inputs ++ variables_of text latches) at)
-      section_wrong e = going_wrong text f judged m _ at g less (said.0 e)
+      pub section_wrong : r ≡ None
+          → Err (record { at = p }) ≡ ended_as (section (form_of f) judged m text n (variables_of text inputs ++ variables_of text latches) at)
+      section_wrong e = going_wrong text f judged m _ at g less (next_none _ text p (sym e ∙ said))
 
-      pub section_next : (r ≡ 0 → ⊥) → r ≤ length text
-          → Going text f judged m (variables_of text inputs ++ variables_of text latches) at n r (i + 1)
-      section_next other inside = going_next text f judged m _ at g less (said.1 other).0 least r (said.1 other).1 inside
+      pub section_next : 1 ≤ f.width → (q : ℕ) → r ≡ Some q → q ≤ length text
+          → Going text f judged m (variables_of text inputs ++ variables_of text latches) at n q (i + 1)
+      section_next least q e inside =
+          let next = next_some _ text p q (sym e ∙ said) in
+          going_next text f judged m _ at g less next.0 least q next.1 inside

@@ -13,7 +13,8 @@ use Rattle.meaning.specs.CircuitText
 use Rattle.meaning.specs.CircuitText.{numbers_at, used_right, defined_right, literals_right, line_right}
 use Rattle.laws.specs.Basics.{bool_cases}
 use Rattle.lines.specs.declared.number.Number.{Number}
-use Rattle.lines.specs.Numbers.{worth, Stands, huge, capped}
+use Rattle.lines.specs.Digits.{huge, capped}
+use Rattle.lines.specs.Numbers.{worth}
 use Rattle.sections.specs.declared.line.Form.{Form}
 use Rattle.sections.specs.declared.line.Before.{Before}
 use Rattle.sections.specs.Lists.{variables_of, Placed}
@@ -110,21 +111,21 @@ module _ (judged : Bool) (m : ℕ) (before : List ℕ) (l : ℕ) where
         judged_new j r is = sym (rw (even, le-leb 2 l least, same_range ∙ range, j, sym is))
 
 -- the capped value tells whether a number is below 2
-pub value_small : (text : List ℕ) (x : Number) → Stands text x → x.value < 2 → worth text x < 2
-unfolding capped
-value_small text x h less = go (bool_cases (leb huge (worth text x))) (subst (λ (v : ℕ). v < 2) h.value less)
+pub value_small : (x : Number) → x.value < 2 → worth x < 2
+unfolding capped worth
+value_small x less = go (bool_cases (leb huge (worth x))) (subst (λ (v : ℕ). v < 2) x.valued less)
   where
-    go : (leb huge (worth text x) ≡ true) ⊎ (leb huge (worth text x) ≡ false) → capped (worth text x) < 2 → worth text x < 2
+    go : (leb huge (worth x) ≡ true) ⊎ (leb huge (worth x) ≡ false) → capped (worth x) < 2 → worth x < 2
     go (inl t) small = absurd (omega (arith, small, t_is t))
       where
-        t_is : leb huge (worth text x) ≡ true → capped (worth text x) ≡ huge
+        t_is : leb huge (worth x) ≡ true → capped (worth x) ≡ huge
         t_is t = rw t
     go (inr t) small = subst (λ (v : ℕ). v < 2) (rw t) small
 
-pub value_least : (text : List ℕ) (x : Number) → Stands text x → 2 ≤ x.value → 2 ≤ worth text x
-unfolding capped
-value_least text x h least = go (bool_cases (leb huge (worth text x))) (subst (λ (v : ℕ). 2 ≤ v) h.value least)
+pub value_least : (x : Number) → 2 ≤ x.value → 2 ≤ worth x
+unfolding capped worth
+value_least x least = go (bool_cases (leb huge (worth x))) (subst (λ (v : ℕ). 2 ≤ v) x.valued least)
   where
-    go : (leb huge (worth text x) ≡ true) ⊎ (leb huge (worth text x) ≡ false) → 2 ≤ capped (worth text x) → 2 ≤ worth text x
-    go (inl t) large = omega (arith, leb-true huge (worth text x) t)
+    go : (leb huge (worth x) ≡ true) ⊎ (leb huge (worth x) ≡ false) → 2 ≤ capped (worth x) → 2 ≤ worth x
+    go (inl t) large = omega (arith, leb-true huge (worth x) t)
     go (inr t) large = subst (λ (v : ℕ). 2 ≤ v) (rw t) large

@@ -7,7 +7,8 @@ use Rattle.meaning.specs.Circuit.{var}
 use Rattle.meaning.specs.Built.{position}
 use Rattle.meaning.specs.CircuitText.{numbers_at, defined_in}
 use Rattle.lines.specs.declared.number.Number.{Number}
-use Rattle.lines.specs.Numbers.{digits_of, span, worth, Stands}
+use Rattle.lines.specs.Digits.{digits_of}
+use Rattle.lines.specs.Numbers.{worth}
 use Rattle.lines.specs.Past.{ended_number, next_number}
 use Rattle.sections.specs.Lists.{first_lines, Numbered, first_number_is, numbered_left, found_here, found_later, position_end}
 
@@ -35,24 +36,24 @@ module _ {text : List ℕ} {u at count p i : ℕ} (s : Seeking text u at count p
       all_passed : i ≡ count
       all_passed = omega (arith, s.low)
 
-  module _ (less : i < count) (y : Number) (stands : Stands text y) (start : y.start ≡ p) (whole : span text y ≡ digits_of (drop p text))
-      (b : Bool) (said : b ≡ eqb u (var (worth text y))) where
+  module _ (less : i < count) (y : Number) (whole : y.digits.now ≡ digits_of (drop p text))
+      (b : Bool) (said : b ≡ eqb u (var (worth y))) where
     left : (ended text p ≡ true) × (all is_number (words (line_at text p)) ≡ true) × Numbered text (next_line text p) (count - (i + 1))
     left = numbered_left text u p i count less s.numbered
 
-    v_is : var (worth text y) ≡ var (get_or (numbers_at text p) 0 0)
-    v_is = ap var (sym (first_number_is text p y stands start whole left.1))
+    v_is : var (worth y) ≡ var (get_or (numbers_at text p) 0 0)
+    v_is = ap var (sym (first_number_is text p y whole left.1))
 
     pub seek_here : b ≡ true → (i ≡ position u (defined_in (first_lines text at count))) × (i ≤ count)
     seek_here same =
-        (omega (arith, s.is, found_here text u p i count less (var (worth text y)) v_is (sym said ∙ same)), s.low)
+        (omega (arith, s.is, found_here text u p i count less (var (worth y)) v_is (sym said ∙ same)), s.low)
 
-    pub seek_ended : ended text y.end ≡ true
-    seek_ended = sym (ended_number text p y stands start whole) ∙ left.0
+    pub seek_ended : ended text (p + length y.digits.now) ≡ true
+    seek_ended = sym (ended_number text p y whole) ∙ left.0
 
-    pub seek_next : b ≡ false → (q : ℕ) → q ≡ next_line text y.end → q ≤ length text → Seeking text u at count q (i + 1)
+    pub seek_next : b ≡ false → (q : ℕ) → q ≡ next_line text (p + length y.digits.now) → q ≤ length text → Seeking text u at count q (i + 1)
     seek_next other q q_is q_in =
-        let place : q ≡ next_line text p = q_is ∙ sym (next_number text p y stands start whole) in
+        let place : q ≡ next_line text p = q_is ∙ sym (next_number text p y whole) in
         record {
           is =
               subst
@@ -60,7 +61,7 @@ module _ {text : List ℕ} {u at count p i : ℕ} (s : Seeking text u at count p
               position u (defined_in (first_lines text at count))
               ≡ i + 1 + position u (defined_in (first_lines text k (count - (i + 1)))))
               (sym place)
-              (omega (arith, s.is, found_later text u p i count less (var (worth text y)) v_is (sym said ∙ other)));
+              (omega (arith, s.is, found_later text u p i count less (var (worth y)) v_is (sym said ∙ other)));
           inside = q_in;
           numbered = subst (λ (k : ℕ). Numbered text k (count - (i + 1))) (sym place) left.2;
           low = omega arith;

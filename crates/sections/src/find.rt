@@ -1,10 +1,9 @@
 // Where a variable is defined.
-ghost use Rattle.std.specs.Prelude.{◌≡◌, ◌+◌, ◌≤◌, length, ◌++◌};
+ghost use Rattle.std.specs.Prelude.{◌≡◌, ◌<◌, IfSome};
 ghost use Rattle.meaning.specs.Circuit.{var};
-ghost use Rattle.meaning.specs.Built.{position, among};
-ghost use Rattle.meaning.specs.CircuitText.{defined_in};
-ghost use Rattle.lines.specs.Numbers.{Stands, worth};
-ghost use Rattle.sections.specs.Lists.{first_lines, Numbered, Placed, variables_of};
+ghost use Rattle.meaning.specs.Built.{among};
+ghost use Rattle.lines.specs.Numbers.{worth};
+ghost use Rattle.sections.specs.Lists.{Placed, found_at, variables_of};
 
 use lines::line::next_line;
 use lines::literal::same_variable;
@@ -17,31 +16,26 @@ pub struct Lines {
     pub count: usize,
 }
 
-// The position of the first of some lines that defines the variable of a literal; their number, where none does.
-pub fn find(text: &[u8], s: Lines, x: Number) -> usize
-    requires placed { Placed text.now s }
-    requires stands { Stands text.now x }
-    ensures { (result ≡ position (var (worth text.now x)) (variables_of text.now s)) × (result ≤ s.count) }
+// The position of the first of some lines that defines the variable of a literal, if one does.
+pub fn find(text: &[u8], s: Lines, x: &Number) -> Option<usize>
+    requires { Placed text.now s }
+    ensures { (result ≡ found_at (var (worth x.now)) (variables_of text.now s)) × IfSome result (λ i. i < s.count) }
 {
-    let count = s.count;
     let mut p = s.at;
-    let mut i: usize = 0;
-    while i < count {
+    for i in 0..s.count {
         let y = number_at(text, p);
-        if same_variable(text, x, y) {
-            return i;
+        if same_variable(x, &y) {
+            return Some(i);
         }
-        p = next_line(text, y.end);
-        i += 1;
+        p = next_line(text, p + y.digits.len());
     }
-    i
+    None
 }
 
 // Whether one of some lines defines it.
-pub fn defines(text: &[u8], s: Lines, x: Number) -> bool
-    requires placed { Placed text.now s }
-    requires stands { Stands text.now x }
-    ensures { result ≡ among (var (worth text.now x)) (variables_of text.now s) }
+pub fn defines(text: &[u8], s: Lines, x: &Number) -> bool
+    requires { Placed text.now s }
+    ensures { result ≡ among (var (worth x.now)) (variables_of text.now s) }
 {
-    find(text, s, x) < s.count
+    find(text, s, x).is_some()
 }

@@ -1,5 +1,7 @@
 -- What the jobs' values stand for: a sifted set, a set that was kept, with the decisions used; and where the budget ends them.
-use Rattle.std.specs.Prelude.{ℕ, ◌≤◌, ◌<◌, ◌≡◌, Bool, true, false, not, ◌&&◌, cond, List, take, ltb}
+use Rattle.std.specs.Prelude.{ℕ, ◌≤◌, ◌<◌, ◌≡◌, Bool, not, ◌&&◌, cond, List, take, Ok, Err}
+use Rattle.std.specs.declared.result.Result.{Result}
+use Rattle.search.specs.declared.Spent.{Spent}
 use Rattle.meaning.specs.Meaning
 use Rattle.meaning.specs.Clauses.{any}
 use Rattle.meaning.specs.Rules.{Answer, Counted, each, sum}
@@ -34,7 +36,6 @@ module _ (ask_at : ℕ → Answer) where
 
   -- after the first d positions: r holds what stayed of them, and the decisions of their questions, which fit the budget
   pub record SiftedUpto (k left : ℕ) (S : Meaning.Marks) (d : ℕ) (r : Sifted) : Type 0 where
-    pub in_budget : r.spent ≡ false
     pub used : r.used ≡ sum (take d (costs S))
     pub fits : r.used ≤ left
     pub marks : marks_at k r.set ≡ upto d (sifted S) S
@@ -42,40 +43,29 @@ module _ (ask_at : ℕ → Answer) where
 
   -- the sifting of S, where the decisions suffice
   pub record SiftedAll (k : ℕ) (S : Meaning.Marks) (r : Sifted) : Type 0 where
-    pub in_budget : r.spent ≡ false
     pub used : r.used ≡ sum (costs S)
     pub marks : marks_at k r.set ≡ sifted S
     pub removed : r.removed ≡ any (λ b. b) (falls S)
 
-  abbrev pub SiftedIf : Bool → ℕ → Meaning.Marks → Sifted → Type 0
-  SiftedIf true k S r = r.spent ≡ true
-  SiftedIf false k S r = SiftedAll k S r
-
   -- a sifting with so many decisions left: spent exactly if it wants more
-  abbrev pub SiftedIs : ℕ → ℕ → Meaning.Marks → Sifted → Type 0
-  SiftedIs k left S r = SiftedIf (ltb left (sum (costs S))) k S r
-
-  abbrev pub NextIf : Bool → ℕ → ℕ → Meaning.Marks → ℕ → Sifted → Type 0
-  NextIf true k left S d r = left < sum (costs S)
-  NextIf false k left S d r = SiftedUpto k left S d r
+  abbrev pub SiftedIs : ℕ → ℕ → Meaning.Marks → Result Sifted Spent → Type 0
+  SiftedIs k left S (Ok r) = SiftedAll k S r × (sum (costs S) ≤ left)
+  SiftedIs k left S (Err s) = left < sum (costs S)
 
   -- after one position more: either the budget is used up, and then it is less than the whole sifting wants, or r is what was done
-  abbrev pub SiftedNext : ℕ → ℕ → Meaning.Marks → ℕ → Sifted → Type 0
-  SiftedNext k left S d r = NextIf r.spent k left S d r
+  abbrev pub SiftedNext : ℕ → ℕ → Meaning.Marks → ℕ → Result Sifted Spent → Type 0
+  SiftedNext k left S d (Ok r) = SiftedUpto k left S d r
+  SiftedNext k left S d (Err s) = left < sum (costs S)
 
 -- a set that was kept, where the decisions suffice
 pub record KeptAll (k : ℕ) (c : Counted) (r : Kept) : Type 0 where
-  pub in_budget : r.spent ≡ false
   pub used : r.used ≡ c.count
   pub marks : marks_at k r.set ≡ c.marks
 
-abbrev pub KeptIf : Bool → ℕ → Counted → Kept → Type 0
-KeptIf true k c r = r.spent ≡ true
-KeptIf false k c r = KeptAll k c r
-
 -- with so many decisions left: spent exactly if it wants more
-abbrev pub KeptIs : ℕ → ℕ → Counted → Kept → Type 0
-KeptIs k left c r = KeptIf (ltb left c.count) k c r
+abbrev pub KeptIs : ℕ → ℕ → Counted → Result Kept Spent → Type 0
+KeptIs k left c (Ok r) = KeptAll k c r × (c.count ≤ left)
+KeptIs k left c (Err s) = left < c.count
 
 -- the answers that a way of sifting gets: those of the questions about the set s of the problem at p
 abbrev pub way_asks : List ℕ → Problem → Marks → Way → ℕ → Answer
@@ -84,10 +74,10 @@ way_asks file p s way d = asks file p (marks_at p.k s) (question_of (way_of way 
 abbrev pub DoneUpto : List ℕ → Problem → Marks → Way → ℕ → ℕ → Sifted → Type 0
 DoneUpto file p s way left d r = SiftedUpto (way_asks file p s way) p.k left (marks_at p.k s) d r
 
-abbrev pub DoneNext : List ℕ → Problem → Marks → Way → ℕ → ℕ → Sifted → Type 0
+abbrev pub DoneNext : List ℕ → Problem → Marks → Way → ℕ → ℕ → Result Sifted Spent → Type 0
 DoneNext file p s way left d r = SiftedNext (way_asks file p s way) p.k left (marks_at p.k s) d r
 
-abbrev pub Done : List ℕ → Problem → Marks → Way → ℕ → Sifted → Type 0
+abbrev pub Done : List ℕ → Problem → Marks → Way → ℕ → Result Sifted Spent → Type 0
 Done file p s way left r = SiftedIs (way_asks file p s way) p.k left (marks_at p.k s) r
 
 -- a position of the problem may be asked either way

@@ -1,58 +1,15 @@
 -- A set that was kept, by whether the budget was used up; and the rounds of a set, one round at a time.
-use Rattle.std.specs.Prelude.{ℕ, suc, ◌+◌, ◌-◌, ◌≤◌, ◌<◌, ◌≡◌, Bool, ltb}
-use Rattle.std.proofs.Math.Path.{refl, sym, ap, subst⁻¹}
-use Rattle.std.proofs.Common.{subst, subst₂, ◌∙◌, true≢false, arith, add_assoc, zero-add, lt-ltb, le-ltb, ltb-true, ltb-false}
+use Rattle.std.specs.Prelude.{ℕ, suc, ◌+◌, ◌-◌, ◌≤◌, ◌<◌, ◌≡◌, Bool, Ok}
+use Rattle.std.proofs.Math.Path.{refl, sym, ap}
+use Rattle.std.proofs.Common.{subst, subst₂, ◌∙◌, arith, add_assoc, zero-add}
 use Rattle.std.proofs.Math.Bool.{true, false}
 use Rattle.meaning.specs.Meaning
 use Rattle.meaning.specs.Rules
 use Rattle.meaning.specs.Rules.{Question, Answer, Counted, plus, step, survivors, round_cost, removes, rounds_within, until_none, rounds, size}
 use Rattle.search.specs.declared.Marks.{Marks}
 use Rattle.sets.specs.Asks.{marks_at}
-use Rattle.sets.specs.declared.rounds.Kept.{Kept}
 use Rattle.sets.specs.declared.rounds.Sifted.{Sifted}
-use Rattle.sets.specs.Forms.{KeptAll, KeptIf, KeptIs, SiftedAll, SiftedIf, SiftedIs, sifted, costs, falls}
-
-module _ (k left : ℕ) (c : Counted) (r : Kept) where
-  pub kept_over : left < c.count → r.spent ≡ true → KeptIs k left c r
-  kept_over over e = subst⁻¹ (λ (b : Bool). KeptIf b k c r) (lt-ltb left c.count over) e
-
-  pub kept_all : c.count ≤ left → KeptAll k c r → KeptIs k left c r
-  kept_all enough h = subst⁻¹ (λ (b : Bool). KeptIf b k c r) (le-ltb left c.count enough) h
-
-  pub kept_spent : KeptIs k left c r → r.spent ≡ true → left < c.count
-  kept_spent h e = go (ltb left c.count) refl h
-    where
-      go : (b : Bool) → ltb left c.count ≡ b → KeptIf b k c r → left < c.count
-      go true t g = ltb-true left c.count t
-      go false t g = absurd (true≢false (sym e ∙ g.in_budget))
-
-  pub kept_in : KeptIs k left c r → r.spent ≡ false → KeptAll k c r × (c.count ≤ left)
-  kept_in h e = go (ltb left c.count) refl h
-    where
-      go : (b : Bool) → ltb left c.count ≡ b → KeptIf b k c r → KeptAll k c r × (c.count ≤ left)
-      go true t g = absurd (true≢false (sym g ∙ e))
-      go false t g = (g, ltb-false left c.count t)
-
-pub kept_used : (k left : ℕ) (c : Counted) (r : Kept) → KeptIs k left c r → r.spent ≡ false → r.used ≤ left
-kept_used k left c r h e = let got = kept_in k left c r h e in omega (arith, got.0.used, got.1)
-
--- the same of a sifting
-module _ (ask_at : ℕ → Answer) (k left : ℕ) (S : Meaning.Marks) (r : Sifted) where
-  pub sifted_spent : SiftedIs ask_at k left S r → r.spent ≡ true → left < Rules.sum (costs ask_at S)
-  sifted_spent h e = go (ltb left (Rules.sum (costs ask_at S))) refl h
-    where
-      go : (b : Bool) → ltb left (Rules.sum (costs ask_at S)) ≡ b → SiftedIf ask_at b k S r → left < Rules.sum (costs ask_at S)
-      go true t g = ltb-true left (Rules.sum (costs ask_at S)) t
-      go false t g = absurd (true≢false (sym e ∙ g.in_budget))
-
-  pub sifted_in : SiftedIs ask_at k left S r → r.spent ≡ false
-      → SiftedAll ask_at k S r × (Rules.sum (costs ask_at S) ≤ left)
-  sifted_in h e = go (ltb left (Rules.sum (costs ask_at S))) refl h
-    where
-      go : (b : Bool) → ltb left (Rules.sum (costs ask_at S)) ≡ b → SiftedIf ask_at b k S r
-          → SiftedAll ask_at k S r × (Rules.sum (costs ask_at S) ≤ left)
-      go true t g = absurd (true≢false (sym g ∙ e))
-      go false t g = (g, ltb-false left (Rules.sum (costs ask_at S)) t)
+use Rattle.sets.specs.Forms.{KeptIs, SiftedIs, sifted, costs, falls}
 
 pub plus_plus : (a b : ℕ) (c : Counted) → plus a (plus b c) ≡ plus (a + b) c
 unfolding plus
@@ -117,51 +74,42 @@ module _ (ask : Meaning.Marks → Question → Answer) (k left : ℕ) (S₀ S : 
     (h : RoundsLeft ask S₀ u fuel S) where
   -- no fuel is left: this is never met, and what stands then is S
   pub rounds_out : (s : Marks) → fuel ≡ 0 → marks_at k s ≡ S
-      → KeptIs k left (rounds ask S₀) (record { set = s; used = u; spent = false })
+      → KeptIs k left (rounds ask S₀) (Ok (record { set = s; used = u }))
   unfolding rounds_within plus
   rounds_out s none_left e =
       let is : rounds ask S₀ ≡ record { marks = S; count = u + 0 } =
       h ∙ ap (λ (n : ℕ). plus u (rounds_within ask n S)) none_left in
       let counted : (rounds ask S₀).count ≡ u + 0 = ap (λ (c : Counted). c.count) is in
-      kept_all k left (rounds ask S₀) _ (omega (arith, counted))
-      (record { in_budget = refl; used = omega (arith, counted); marks = e ∙ sym (ap (λ (c : Counted). c.marks) is) })
+      (record { used = omega (arith, counted); marks = e ∙ sym (ap (λ (c : Counted). c.marks) is) }, omega (arith, counted))
 
-  module _ (some_left : 0 < fuel) (r : Sifted) (is : SiftedIs (λ d. ask S (step d)) k (left - u) S r) where
+  module _ (some_left : 0 < fuel) where
     more_fuel : RoundsLeft ask S₀ u (suc (fuel - 1)) S
     more_fuel = subst (λ (n : ℕ). RoundsLeft ask S₀ u n S) {y = suc (fuel - 1)} (omega arith) h
 
-    pub round_spent : r.spent ≡ true → left < (rounds ask S₀).count
-    round_spent e =
-        omega (
-          arith,
-          sifted_spent (λ d. ask S (step d)) k (left - u) S r is e,
-          round_cost_is ask S,
-          rounds_wants ask S₀ S u (fuel - 1) more_fuel,
-        )
+    pub round_spent : left - u < Rules.sum (costs (λ d. ask S (step d)) S) → left < (rounds ask S₀).count
+    round_spent over = omega (arith, over, round_cost_is ask S, rounds_wants ask S₀ S u (fuel - 1) more_fuel)
 
-    pub round_used : r.spent ≡ false → u + r.used ≤ left
-    round_used e =
-        let got = sifted_in (λ d. ask S (step d)) k (left - u) S r is e in omega (arith, got.1, got.0.used)
+    module _ (r : Sifted) (is : SiftedIs (λ d. ask S (step d)) k (left - u) S (Ok r)) where
+      pub round_used : u + r.used ≤ left
+      round_used = omega (arith, is.1, is.0.used)
 
-    pub round_last : (s : Marks) → marks_at k s ≡ S → r.spent ≡ false → r.removed ≡ false
-        → KeptIs k left (rounds ask S₀) (record { set = s; used = u + r.used; spent = false })
-    round_last s e in_budget none_fell =
-        let got = sifted_in (λ d. ask S (step d)) k (left - u) S r is in_budget in
-        let done =
-        rounds_done ask S₀ S u (fuel - 1) (sym (removes_is ask S) ∙ sym got.0.removed ∙ none_fell) more_fuel in
-        let counted : (rounds ask S₀).count ≡ u + round_cost ask S = ap (λ (c : Counted). c.count) done in
-        kept_all k left (rounds ask S₀) _ (omega (arith, counted, got.1, round_cost_is ask S))
-        (record {
-          in_budget = refl;
-          used = omega (arith, counted, got.0.used, round_cost_is ask S);
-          marks = e ∙ sym (ap (λ (c : Counted). c.marks) done);
-        })
+      pub round_last : (s : Marks) → marks_at k s ≡ S → r.removed ≡ false
+          → KeptIs k left (rounds ask S₀) (Ok (record { set = s; used = u + r.used }))
+      round_last s e none_fell =
+          let done =
+          rounds_done ask S₀ S u (fuel - 1) (sym (removes_is ask S) ∙ sym is.0.removed ∙ none_fell) more_fuel in
+          let counted : (rounds ask S₀).count ≡ u + round_cost ask S = ap (λ (c : Counted). c.count) done in (
+            record {
+              used = omega (arith, counted, is.0.used, round_cost_is ask S);
+              marks = e ∙ sym (ap (λ (c : Counted). c.marks) done);
+            },
+            omega (arith, counted, is.1, round_cost_is ask S),
+          )
 
-    pub round_again : r.spent ≡ false → r.removed ≡ true → RoundsLeft ask S₀ (u + r.used) (fuel - 1) (marks_at k r.set)
-    round_again in_budget some_fell =
-        let got = sifted_in (λ d. ask S (step d)) k (left - u) S r is in_budget in
-        let more = rounds_more ask S₀ S u (fuel - 1) (sym (removes_is ask S) ∙ sym got.0.removed ∙ some_fell) more_fuel in
-        subst₂ (λ (n : ℕ) (X : Meaning.Marks). RoundsLeft ask S₀ (u + n) (fuel - 1) X)
-        (sym (got.0.used ∙ round_cost_is ask S))
-        (sym (got.0.marks ∙ survivors_is ask S))
-        more
+      pub round_again : r.removed ≡ true → RoundsLeft ask S₀ (u + r.used) (fuel - 1) (marks_at k r.set)
+      round_again some_fell =
+          let more = rounds_more ask S₀ S u (fuel - 1) (sym (removes_is ask S) ∙ sym is.0.removed ∙ some_fell) more_fuel in
+          subst₂ (λ (n : ℕ) (X : Meaning.Marks). RoundsLeft ask S₀ (u + n) (fuel - 1) X)
+          (sym (is.0.used ∙ round_cost_is ask S))
+          (sym (is.0.marks ∙ survivors_is ask S))
+          more

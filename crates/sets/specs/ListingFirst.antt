@@ -1,5 +1,5 @@
 -- A question of each position, up to the first that is satisfiable: one position at a time.
-use Rattle.std.specs.Prelude.{ℕ, suc, ◌+◌, ◌-◌, ◌≤◌, ◌<◌, ◌≡◌, Bool, length, get_or}
+use Rattle.std.specs.Prelude.{ℕ, suc, ◌+◌, ◌-◌, ◌≤◌, ◌<◌, ◌≡◌, Bool, length, get_or, Ok}
 use Rattle.std.proofs.Math.Path.{refl, sym, ap}
 use Rattle.std.proofs.Common.{ap₂, subst, ◌∙◌, arith, add-one, drop-cons}
 use Rattle.std.proofs.Math.Bool.{true, false}
@@ -9,11 +9,10 @@ use Rattle.std.proofs.Math.Seq.{drop-length}
 use Rattle.meaning.specs.Meaning
 use Rattle.meaning.specs.Meaning.{has}
 use Rattle.meaning.specs.Rules.{Answer, first_yes, or_then, counted_on, unless}
-use Rattle.search.specs.declared.Found.{Found}
-use Rattle.search.specs.declared.Found.TheVariants.{No}
-use Rattle.search.specs.Forms.{bounded}
+use Rattle.search.specs.declared.Answer.TheVariants.{No}
+use Rattle.search.specs.Forms.{Found, bounded, later}
 use Rattle.sets.specs.Told.{Told, Tells}
-use Rattle.sets.specs.ListingFound.{after_of, Ends, if_in, no_answer, tells_bounded, ends_tells, after_tells, counted_twice, counted_none, goes_on}
+use Rattle.sets.specs.ListingFound.{Ends, if_in, no_answer, tells_bounded, ends_tells, after_tells, counted_twice, counted_none, goes_on}
 
 module _ (ask_at : ℕ → Answer) (S : Meaning.Marks) where
   -- used decisions were taken by the positions before d, and none of them was satisfiable
@@ -47,21 +46,21 @@ module _ (ask_at : ℕ → Answer) (S : Meaning.Marks) where
 
     -- it ends the questions
     pub first_ends : (f : Found) → Ends f → Tells (left - used) (if_in (has S d) (ask_at d)) f
-        → after_of used f ≡ bounded left (first_yes ask_at 0 S)
+        → later used f ≡ bounded left (first_yes ask_at 0 S)
     first_ends f ends told =
-        tells_bounded left (first_yes ask_at 0 S) (after_of used f)
-        (subst (λ (a : Answer). Tells left a (after_of used f)) (sym next_is)
+        tells_bounded left (first_yes ask_at 0 S) (later used f)
+        (subst (λ (a : Answer). Tells left a (later used f)) (sym next_is)
         (after_tells left used _ fits f (ends_tells (left - used) (if_in (has S d) (ask_at d)) _ f ends told)))
 
   -- no position is left
-  pub first_none : (left used d : ℕ) → d ≡ length S → used ≤ left → FirstLeft used d → No used ≡ bounded left (first_yes ask_at 0 S)
+  pub first_none : (left used d : ℕ) → d ≡ length S → used ≤ left → FirstLeft used d → Ok (No used) ≡ bounded left (first_yes ask_at 0 S)
   unfolding first_yes counted_on
   first_none left used d e fits h =
-      tells_bounded left (first_yes ask_at 0 S) (No used)
-      (subst (λ (a : Answer). Tells left a (No used)) (sym (h ∙ ap (λ (l : Meaning.Marks). counted_on used (first_yes ask_at d l)) nothing_left)) done)
+      tells_bounded left (first_yes ask_at 0 S) (Ok (No used))
+      (subst (λ (a : Answer). Tells left a (Ok (No used))) (sym (h ∙ ap (λ (l : Meaning.Marks). counted_on used (first_yes ask_at d l)) nothing_left)) done)
     where
       nothing_left : drop d S ≡ []
       nothing_left = ap (λ (n : ℕ). drop n S) e ∙ drop-length S
 
-      done : Tells left (counted_on used (first_yes ask_at d [])) (No used)
+      done : Tells left (counted_on used (first_yes ask_at d [])) (Ok (No used))
       done = record { sat = refl; count = omega arith; fits = fits }

@@ -1,9 +1,10 @@
 -- Marks in an array: what a store does to the set.
-use Rattle.std.specs.Prelude.{ℕ, zero, suc, ◌≤◌, ◌<◌, ◌≡◌, refl, Bool, false, List, ◌∷◌, length, set, take, get_or, replicate}
+use Rattle.std.specs.Prelude.{ℕ, zero, suc, ◌≤◌, ◌<◌, ◌≡◌, refl, Bool, true, false, List, ◌∷◌, length, set, take, get_or, replicate}
 use Rattle.std.proofs.Common.{not-suc-le-zero, le_of_suc-le-suc, ap, ◌∙◌, length-take-le, get_or-take}
 use Rattle.std.proofs.Math.Path.{subst⁻¹}
 use Rattle.std.proofs.Math.Seq.{take-set-lt}
 use Rattle.meaning.specs.Meaning.{has}
+use Rattle.meaning.specs.Rules.{without, with_position}
 use Rattle.search.specs.declared.Marks.{Marks}
 use Rattle.sets.specs.Asks.{marks_at}
 
@@ -12,9 +13,18 @@ take_replicate zero n b h = refl
 take_replicate (suc k) zero b h = absurd (not-suc-le-zero h)
 take_replicate (suc k) (suc n) b h = ap (λ (l : List Bool). b ∷ l) (take_replicate k n b (le_of_suc-le-suc h))
 
-pub stored : (k : ℕ) (s : Marks) (q : ℕ) (b : Bool) → q < k → marks_at k (record { on = set s.on q b }) ≡ set (marks_at k s) q b
+stored : (k : ℕ) (s r : Marks) (q : ℕ) (b : Bool) → q < k → r.on ≡ set s.on q b → marks_at k r ≡ set (marks_at k s) q b
 unfolding marks_at
-stored k s q b h = take-set-lt k s.on q b h
+stored k s r q b h e = ap (take k) e ∙ take-set-lt k s.on q b h
+
+module _ (k : ℕ) (s r : Marks) (q : ℕ) (h : q < k) where
+  pub less_at : r.on ≡ without q s.on → marks_at k r ≡ without q (marks_at k s)
+  unfolding without
+  less_at e = stored k s r q false h e
+
+  pub more_at : r.on ≡ with_position q s.on → marks_at k r ≡ with_position q (marks_at k s)
+  unfolding with_position
+  more_at e = stored k s r q true h e
 
 -- a set of k positions, at most 128, in an array of 128 marks
 pub marks_long : (k : ℕ) (s : Marks) → length s.on ≡ 128 → k ≤ 128 → length (marks_at k s) ≡ k

@@ -1,7 +1,7 @@
 -- One position more of a sifting, over any answers.
-use Rattle.std.specs.Prelude.{ℕ, suc, ◌+◌, ◌≤◌, ◌<◌, ◌≡◌, refl, Bool, ◌&&◌, ◌||◌, length, take}
+use Rattle.std.specs.Prelude.{ℕ, suc, ◌+◌, ◌≤◌, ◌<◌, ◌≡◌, refl, Bool, ◌&&◌, ◌||◌, length, take, Ok}
 use Rattle.std.proofs.Math.Path.{sym, ap, ap₂, subst⁻¹}
-use Rattle.std.proofs.Common.{subst, ◌∙◌, arith, add-zero, add-one, lt-ltb, le-ltb}
+use Rattle.std.proofs.Common.{◌∙◌, arith, add-zero, add-one}
 use Rattle.std.proofs.Math.Bool.{true, false, not, cond, or-true, or-false}
 use Rattle.std.proofs.Math.ListN.{get_or, set}
 use Rattle.std.proofs.Math.Seq.{set-get_or}
@@ -14,7 +14,7 @@ use Rattle.search.specs.declared.Marks.{Marks}
 use Rattle.sets.specs.Asks.{marks_at}
 use Rattle.sets.specs.declared.rounds.Sifted.{Sifted}
 use Rattle.sets.specs.Upto.{upto, upto_start, upto_end, upto_next, upto_here, sum_next, sum_upto, any_next, any_all_taken, sum_all_taken}
-use Rattle.sets.specs.Forms.{sifted, costs, falls, SiftedUpto, SiftedIf, SiftedIs, NextIf, SiftedNext}
+use Rattle.sets.specs.Forms.{sifted, costs, falls, SiftedUpto, SiftedIs}
 
 module _ (ask_at : ℕ → Answer) (k left : ℕ) (S : Meaning.Marks) where
   sifted_long : length (sifted ask_at S) ≡ length S
@@ -31,11 +31,10 @@ module _ (ask_at : ℕ → Answer) (k left : ℕ) (S : Meaning.Marks) where
 
   -- before the first position
   pub sift_start : (s : Marks) → marks_at k s ≡ S
-      → SiftedUpto ask_at k left S 0 (record { set = s; used = 0; removed = false; spent = false })
+      → SiftedUpto ask_at k left S 0 (record { set = s; used = 0; removed = false })
   unfolding sum any
   sift_start s e =
       record {
-        in_budget = refl;
         used = refl;
         fits = omega arith;
         marks = e ∙ sym (upto_start (sifted ask_at S) S sifted_long);
@@ -75,7 +74,6 @@ module _ (ask_at : ℕ → Answer) (k left : ℕ) (S : Meaning.Marks) where
     pub sift_skip : has S d ≡ false → SiftedUpto ask_at k left S (suc d) r
     sift_skip out =
         record {
-          in_budget = done.in_budget;
           used = sym (cost_next ∙ ap (λ (b : Bool). r.used + cond b (ask_at d).count 0) out ∙ add-zero r.used);
           fits = done.fits;
           marks =
@@ -100,11 +98,10 @@ module _ (ask_at : ℕ → Answer) (k left : ℕ) (S : Meaning.Marks) where
 
     pub sift_fall : (s : Marks) (u : ℕ) → marks_at k s ≡ without d (marks_at k r.set) → has S d ≡ true → (ask_at d).sat ≡ true
         → (ask_at d).count ≡ u → r.used + u ≤ left
-        → SiftedUpto ask_at k left S (suc d) (record { set = s; used = r.used + u; removed = true; spent = false })
+        → SiftedUpto ask_at k left S (suc d) (record { set = s; used = r.used + u; removed = true })
     unfolding without
     sift_fall s u e in_set sat count fits =
         record {
-          in_budget = refl;
           used = used_next u in_set count;
           fits = fits;
           marks = e ∙ mark_asked true in_set sat;
@@ -112,10 +109,9 @@ module _ (ask_at : ℕ → Answer) (k left : ℕ) (S : Meaning.Marks) where
         }
 
     pub sift_stay : (u : ℕ) → has S d ≡ true → (ask_at d).sat ≡ false → (ask_at d).count ≡ u → r.used + u ≤ left
-        → SiftedUpto ask_at k left S (suc d) (record { set = r.set; used = r.used + u; removed = r.removed; spent = false })
+        → SiftedUpto ask_at k left S (suc d) (record { set = r.set; used = r.used + u; removed = r.removed })
     sift_stay u in_set sat count fits =
         record {
-          in_budget = refl;
           used = used_next u in_set count;
           fits = fits;
           marks = sym unchanged ∙ ap (λ (b : Bool). set (marks_at k r.set) d b) in_set ∙ mark_asked false in_set sat;
@@ -125,34 +121,18 @@ module _ (ask_at : ℕ → Answer) (k left : ℕ) (S : Meaning.Marks) where
     pub sift_spent : has S d ≡ true → left < r.used + (ask_at d).count → left < sum (costs ask_at S)
     sift_spent in_set over = omega (arith, cost_asked in_set, sum_upto (costs ask_at S) (suc d))
 
-  -- either way, after one position more
-  pub next_done : (d : ℕ) (r : Sifted) → SiftedUpto ask_at k left S d r → SiftedNext ask_at k left S d r
-  next_done d r done = subst⁻¹ (λ (b : Bool). NextIf ask_at b k left S d r) done.in_budget done
+  -- one position more, counted
+  pub next_upto : (d : ℕ) (r : Sifted) → SiftedUpto ask_at k left S (suc d) r → SiftedUpto ask_at k left S (d + 1) r
+  next_upto d r next = subst⁻¹ (λ (n : ℕ). SiftedUpto ask_at k left S n r) (add-one d) next
 
-  sift_whole : (r : Sifted) → SiftedUpto ask_at k left S (length S) r → SiftedIs ask_at k left S r
-  sift_whole r done =
-      let whole = sum_all_taken (costs ask_at S) (length S) costs_long in
-      let enough : sum (costs ask_at S) ≤ left = omega (arith, done.used, done.fits, whole) in
-      subst⁻¹ (λ (b : Bool). SiftedIf ask_at b k S r) (le-ltb left (sum (costs ask_at S)) enough)
-      (record {
-        in_budget = done.in_budget;
-        used = done.used ∙ whole;
-        marks = done.marks ∙ upto_end (sifted ask_at S) S sifted_long;
-        removed = done.removed ∙ any_all_taken (falls ask_at S) (length S) falls_long;
-      })
-
-  pub sift_over : (r : Sifted) → r.spent ≡ true → left < sum (costs ask_at S) → SiftedIs ask_at k left S r
-  sift_over r s over = subst⁻¹ (λ (b : Bool). SiftedIf ask_at b k S r) (lt-ltb left (sum (costs ask_at S)) over) s
-
-  -- what one position more told, by whether the budget was used up
-  pub next_over : (d : ℕ) (r : Sifted) → r.spent ≡ true → SiftedNext ask_at k left S d r → SiftedIs ask_at k left S r
-  next_over d r e next =
-      sift_over r e (subst (λ (b : Bool). NextIf ask_at b k left S d r) e next)
-
-  pub next_upto : (d : ℕ) (r : Sifted) → r.spent ≡ false → SiftedNext ask_at k left S (suc d) r → SiftedUpto ask_at k left S (d + 1) r
-  next_upto d r e next =
-      subst⁻¹ (λ (n : ℕ). SiftedUpto ask_at k left S n r) (add-one d)
-      (subst (λ (b : Bool). NextIf ask_at b k left S (suc d) r) e next)
-
-  pub sift_end : (d : ℕ) (r : Sifted) → d ≡ length S → SiftedUpto ask_at k left S d r → SiftedIs ask_at k left S r
-  sift_end d r e done = sift_whole r (subst (λ (n : ℕ). SiftedUpto ask_at k left S n r) e done)
+  -- after the last position
+  pub sift_end : (r : Sifted) → SiftedUpto ask_at k left S (length S) r → SiftedIs ask_at k left S (Ok r)
+  sift_end r done =
+      let whole = sum_all_taken (costs ask_at S) (length S) costs_long in (
+        record {
+          used = done.used ∙ whole;
+          marks = done.marks ∙ upto_end (sifted ask_at S) S sifted_long;
+          removed = done.removed ∙ any_all_taken (falls ask_at S) (length S) falls_long;
+        },
+        omega (arith, done.used, done.fits, whole),
+      )

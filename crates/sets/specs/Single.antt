@@ -1,9 +1,11 @@
 -- The one set: the largest set, its safety, and, where it is safe, what shrinking leaves.
-use Rattle.std.specs.Prelude.{ℕ, ◌+◌, ◌-◌, ◌≤◌, ◌<◌, ◌≡◌, Bool, true, false, ltb}
-use Rattle.std.proofs.Math.Path.{refl, sym, ap, ap₂, subst⁻¹}
-use Rattle.std.proofs.Common.{◌∙◌, arith, lt-ltb, le-ltb}
+use Rattle.std.specs.Prelude.{ℕ, ◌+◌, ◌-◌, ◌≤◌, ◌<◌, ◌≡◌, Bool, true, false, Ok, Err}
+use Rattle.std.proofs.Math.Path.{refl, sym, ap, ap₂}
+use Rattle.std.proofs.Common.{◌∙◌, arith}
 use Rattle.std.proofs.Math.Bool.{cond}
 use Rattle.std.proofs.Math.Option.{Option, none, some}
+use Rattle.std.specs.declared.result.Result.{Result}
+use Rattle.search.specs.declared.Spent.{Spent}
 use Rattle.meaning.specs.Meaning
 use Rattle.meaning.specs.Rules
 use Rattle.meaning.specs.Rules.{Question, Answer, Counted, safety, shrink, largest, largest_safety, counted_on, one, one_if}
@@ -11,8 +13,7 @@ use Rattle.sets.specs.Asks.{marks_at}
 use Rattle.sets.specs.declared.rounds.Kept.{Kept}
 use Rattle.sets.specs.declared.picks.Judged.{Judged}
 use Rattle.sets.specs.Forms.{KeptIs}
-use Rattle.sets.specs.Keeping.{kept_spent, kept_in}
-use Rattle.sets.specs.Judging.{judged_count, JudgedIs, judged_spent, judged_in}
+use Rattle.sets.specs.Judging.{judged_count, JudgedIs}
 use Rattle.laws.specs.Basics.{true_of_not, false_of_not}
 
 -- the set that was found, if it is safe
@@ -21,23 +22,13 @@ found_of k r = cond r.safe (some (marks_at k r.set)) none
 
 module _ (ask : Meaning.Marks → Question → Answer) (k left : ℕ) where
   pub record SingleAll (r : Judged) : Type 0 where
-    pub in_budget : r.spent ≡ false
     pub used : r.used ≡ (one ask k).count
     pub found : found_of k r ≡ (one ask k).found
 
-  abbrev pub SingleIf : Bool → Judged → Type 0
-  SingleIf true r = r.spent ≡ true
-  SingleIf false r = SingleAll r
-
   -- with so many decisions left: spent exactly if the call wants more
-  abbrev pub SingleIs : Judged → Type 0
-  SingleIs r = SingleIf (ltb left (one ask k).count) r
-
-  single_over : (r : Judged) → left < (one ask k).count → r.spent ≡ true → SingleIs r
-  single_over r over e = subst⁻¹ (λ (b : Bool). SingleIf b r) (lt-ltb left (one ask k).count over) e
-
-  single_all : (r : Judged) → (one ask k).count ≤ left → SingleAll r → SingleIs r
-  single_all r enough h = subst⁻¹ (λ (b : Bool). SingleIf b r) (le-ltb left (one ask k).count enough) h
+  abbrev pub SingleIs : Result Judged Spent → Type 0
+  SingleIs (Ok r) = SingleAll r × ((one ask k).count ≤ left)
+  SingleIs (Err s) = left < (one ask k).count
 
   -- the largest set and its safety
   safety_count : (largest_safety ask k).count ≡ judged_count ask (largest ask k)
@@ -71,63 +62,55 @@ module _ (ask : Meaning.Marks → Question → Answer) (k left : ℕ) where
       go true e = omega (arith, ap (λ (s : Rules.Single). s.count) (one_unsafe e))
       go false e = omega (arith, ap (λ (s : Rules.Single). s.count) (one_safe e))
 
-  module _ (b : Judged) (is : JudgedIs ask k left (largest ask k) b) where
-    pub single_spent : b.spent ≡ true → SingleIs b
-    single_spent e = single_over b (omega (arith, one_wants, judged_spent ask k left (largest ask k) b is e)) e
+  pub single_spent : left < judged_count ask (largest ask k) → left < (one ask k).count
+  single_spent over = omega (arith, one_wants, over)
 
-    pub single_fits : b.spent ≡ false → b.used ≤ left
-    single_fits e = let got = judged_in ask k left (largest ask k) b is e in omega (arith, got.0.used, got.1)
+  module _ (b : Judged) (is : JudgedIs ask k left (largest ask k) (Ok b)) where
+    pub single_fits : b.used ≤ left
+    single_fits = omega (arith, is.0.used, is.1)
 
-    pub single_none : b.spent ≡ false → b.safe ≡ false → SingleIs b
+    pub single_none : b.safe ≡ false → SingleIs (Ok b)
     unfolding found_of
-    single_none e unsafe =
-        let got = judged_in ask k left (largest ask k) b is e in
-        let whole = one_unsafe (true_of_not _ (sym got.0.safe ∙ unsafe)) in
-        let counted = ap (λ (s : Rules.Single). s.count) whole in
-        single_all b (omega (arith, counted, got.1))
-        (record {
-          in_budget = e;
-          used = got.0.used ∙ sym counted;
-          found =
-              ap (λ (s : Bool). cond s (some (marks_at k b.set)) none) unsafe ∙ sym (ap (λ (s : Rules.Single). s.found) whole);
-        })
+    single_none unsafe =
+        let whole = one_unsafe (true_of_not _ (sym is.0.safe ∙ unsafe)) in
+        let counted = ap (λ (s : Rules.Single). s.count) whole in (
+          record {
+            used = is.0.used ∙ sym counted;
+            found =
+                ap (λ (s : Bool). cond s (some (marks_at k b.set)) none) unsafe ∙ sym (ap (λ (s : Rules.Single). s.found) whole);
+          },
+          omega (arith, counted, is.1),
+        )
 
-    module _ (e : b.spent ≡ false) (safe : b.safe ≡ true) (r : Kept)
-        (shrunk : KeptIs k (left - b.used) (shrink ask k 0 (marks_at k b.set)) r) where
+    module _ (safe : b.safe ≡ true) where
       whole : one ask k
           ≡ record {
             found = some (shrink ask k 0 (marks_at k b.set)).marks;
             count = b.used + (shrink ask k 0 (marks_at k b.set)).count;
           }
       whole =
-          let got = judged_in ask k left (largest ask k) b is e in
-          one_safe (false_of_not _ (sym got.0.safe ∙ safe))
+          one_safe (false_of_not _ (sym is.0.safe ∙ safe))
           ∙ ap₂
           (λ (S : Meaning.Marks) (n : ℕ). record { found = some (shrink ask k 0 S).marks; count = n + (shrink ask k 0 S).count })
-          (sym got.0.marks)
-          (sym got.0.used)
+          (sym is.0.marks)
+          (sym is.0.used)
 
       counted : (one ask k).count ≡ b.used + (shrink ask k 0 (marks_at k b.set)).count
       counted = ap (λ (s : Rules.Single). s.count) whole
 
-      pub single_then_spent : (x : Judged) → r.spent ≡ true → x.spent ≡ true → SingleIs x
-      single_then_spent x out g =
-          single_over x
-          (omega (arith, counted, kept_spent k (left - b.used) _ r shrunk out, single_fits e))
-          g
+      pub single_then_spent : left - b.used < (shrink ask k 0 (marks_at k b.set)).count → left < (one ask k).count
+      single_then_spent over = omega (arith, counted, over, single_fits)
 
-      pub single_then_used : r.spent ≡ false → b.used + r.used ≤ left
-      single_then_used ok =
-          let got = kept_in k (left - b.used) _ r shrunk ok in omega (arith, got.0.used, got.1, single_fits e)
+      module _ (r : Kept) (shrunk : KeptIs k (left - b.used) (shrink ask k 0 (marks_at k b.set)) (Ok r)) where
+        pub single_then_used : b.used + r.used ≤ left
+        single_then_used = omega (arith, shrunk.0.used, shrunk.1, single_fits)
 
-      pub single_some : r.spent ≡ false
-          → SingleIs (record { set = r.set; used = b.used + r.used; safe = true; spent = false })
-      unfolding found_of
-      single_some ok =
-          let got = kept_in k (left - b.used) _ r shrunk ok in
-          single_all _ (omega (arith, counted, got.1, single_fits e))
-          (record {
-            in_budget = refl;
-            used = omega (arith, counted, got.0.used);
-            found = ap some got.0.marks ∙ sym (ap (λ (s : Rules.Single). s.found) whole);
-          })
+        pub single_some : SingleIs (Ok (record { set = r.set; used = b.used + r.used; safe = true }))
+        unfolding found_of
+        single_some = (
+          record {
+            used = omega (arith, counted, shrunk.0.used);
+            found = ap some shrunk.0.marks ∙ sym (ap (λ (s : Rules.Single). s.found) whole);
+          },
+          omega (arith, counted, shrunk.1, single_fits),
+        )

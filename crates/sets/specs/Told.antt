@@ -1,13 +1,12 @@
 -- What the answer to a question tells, with so many decisions left.
-use Rattle.std.specs.Prelude.{ℕ, ◌≤◌, ◌<◌, ◌≡◌, refl, Bool, true, false, ltb, List}
+use Rattle.std.specs.Prelude.{ℕ, ◌≤◌, ◌<◌, ◌≡◌, refl, Bool, true, false, ltb, List, Ok, Err}
 use Rattle.std.proofs.Common.{sym, ap, subst, ◌∙◌, ltb-true, ltb-false}
 use Rattle.meaning.specs.Rules.{Answer}
-use Rattle.search.specs.declared.Found.{Found}
-use Rattle.search.specs.declared.Found.TheVariants.{Yes, No, Spent}
+use Rattle.search.specs.declared.Answer.TheVariants.{Yes, No}
 use Rattle.format.specs.declared.Problem.{Problem}
 use Rattle.search.specs.declared.Marks.{Marks}
 use Rattle.search.specs.declared.Question.{Question}
-use Rattle.search.specs.Forms.{bounded, spent_if, yes_or_no, question_of}
+use Rattle.search.specs.Forms.{Found, bounded, spent_if, yes_or_no, question_of}
 use Rattle.sets.specs.Asks.{asks, marks_at}
 use Rattle.sets.specs.declared.rounds.Way.{Way}
 use Rattle.sets.specs.Forms.{way_of, way_asks}
@@ -19,15 +18,15 @@ pub record Told (left : ℕ) (a : Answer) (b : Bool) (u : ℕ) : Type 0 where
   pub fits : u ≤ left
 
 abbrev pub Tells : ℕ → Answer → Found → Type 0
-Tells left a (Yes u) = Told left a true u
-Tells left a (No u) = Told left a false u
-Tells left a Spent = left < a.count
+Tells left a (Ok (Yes u)) = Told left a true u
+Tells left a (Ok (No u)) = Told left a false u
+Tells left a (Err s) = left < a.count
 
 pub bounded_tells : (left : ℕ) (a : Answer) → Tells left a (bounded left a)
 unfolding bounded spent_if yes_or_no
 bounded_tells left a = go (ltb left a.count) refl
   where
-    by_sat : a.count ≤ left → (sat : Bool) → a.sat ≡ sat → Tells left a (yes_or_no sat a.count)
+    by_sat : a.count ≤ left → (sat : Bool) → a.sat ≡ sat → Tells left a (Ok (yes_or_no sat a.count))
     by_sat fits true e = record { sat = e; count = refl; fits = fits }
     by_sat fits false e = record { sat = e; count = refl; fits = fits }
 

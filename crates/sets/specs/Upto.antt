@@ -1,11 +1,13 @@
 -- Lists up to a place: what a loop over positions has done so far.
-use Rattle.std.specs.Prelude.{ℕ, zero, suc, ◌+◌, ◌≤◌, ◌<◌, ◌≡◌, Bool, true, false, ◌||◌, get_or}
+use Rattle.std.specs.Prelude.{ℕ, zero, suc, ◌+◌, ◌≤◌, ◌<◌, ◌≡◌, Bool, true, false, ◌||◌, cond, get_or}
 use Rattle.std.proofs.Math.Path.{refl, sym, ap, ap₂, subst}
-use Rattle.std.proofs.Common.{◌∙◌, true≢false, arith, add_assoc, add-zero, take-suc, drop-cons, length-take-le, get_or-append-add, get_or-drop}
+use Rattle.std.proofs.Common.{◌∙◌, arith, add_assoc, add-zero, take-suc, drop-cons, length-take-le, get_or-append-add, get_or-drop}
 use Rattle.std.proofs.Math.Bool.{or-false, or_assoc}
 use mathlib.Core.List.{List, [], ◌∷◌, ◌++◌, append-nil}
 use Rattle.std.proofs.Math.ListN.{length, take, drop, set}
 use Rattle.std.proofs.Math.Seq.{take-length, drop-length, set_at, append_snoc}
+use Rattle.std.specs.List.{count_by}
+use Rattle.std.proofs.lemmas.List.Recursion.{is_count_by}
 use Rattle.meaning.specs.Clauses.{any}
 use Rattle.meaning.specs.Rules.{sum, size}
 
@@ -75,19 +77,11 @@ any_all_taken l d e = ap (λ (m : List Bool). any (λ b. b) m) (ap (λ (n : ℕ)
 pub sum_all_taken : (l : List ℕ) (d : ℕ) → length l ≡ d → sum (take d l) ≡ sum l
 sum_all_taken l d e = ap sum (ap (λ (n : ℕ). take n l) (sym e) ∙ take-length l)
 
--- how many are in, up to a place
-pub size_in : (l : List Bool) (d : ℕ) → d < length l → get_or l d false ≡ true → size (take (suc d) l) ≡ suc (size (take d l))
+-- how many are in: the marks that are set
+pub size_count : (S : List Bool) → size S ≡ count_by (λ b. b) S
 unfolding size
-size_in [] d h e = elim h [ ]
-size_in (true ∷ l) zero h e = refl
-size_in (false ∷ l) zero h e = absurd (true≢false (sym e))
-size_in (true ∷ l) (suc d) h e = ap suc (size_in l d (omega arith) e)
-size_in (false ∷ l) (suc d) h e = size_in l d (omega arith) e
-
-pub size_out : (l : List Bool) (d : ℕ) → d < length l → get_or l d false ≡ false → size (take (suc d) l) ≡ size (take d l)
-unfolding size
-size_out [] d h e = elim h [ ]
-size_out (true ∷ l) zero h e = absurd (true≢false e)
-size_out (false ∷ l) zero h e = refl
-size_out (true ∷ l) (suc d) h e = ap suc (size_out l d (omega arith) e)
-size_out (false ∷ l) (suc d) h e = size_out l d (omega arith) e
+size_count S = is_count_by size (λ b. b) refl next S
+  where
+    next : (b : Bool) (l : List Bool) → size (b ∷ l) ≡ cond b (1 + size l) (size l)
+    next true l = omega arith
+    next false l = refl

@@ -1,56 +1,10 @@
-// Sets of positions by value: none, all, one more, one less, how many.
-ghost use Rattle.std.specs.Prelude.{◌≡◌, ◌≤◌, ◌<◌, replicate, true, false};
-ghost use Rattle.meaning.specs.Rules.{without, with_position, size, contains};
-ghost use Rattle.sets.specs.Asks.{marks_at};
+// How many positions a set has.
+ghost use Rattle.std.specs.Prelude.{◌≡◌, ◌≤◌, length};
+ghost use Rattle.meaning.specs.Rules.{size};
 
-use search::Marks;
-
-// No position.
-pub fn nothing() -> Marks
-    ensures { result.on ≡ replicate 128 false }
+// How many of the marks of a set are set. No method of `Marks`: it would stand in `search`, below the laws of sets that it is proved by.
+pub fn count(marks: &[bool]) -> usize
+    ensures { (result ≡ size marks.now) × (result ≤ length marks.now) }
 {
-    Marks { on: [false; 128] }
-}
-
-// Every position.
-pub fn everything() -> Marks
-    ensures { result.on ≡ replicate 128 true }
-{
-    Marks { on: [true; 128] }
-}
-
-// s without the position q.
-pub fn less(mut s: Marks, q: usize, k: usize) -> Marks
-    requires q_lt_k { q < k }
-    requires k_bound { k ≤ 128 }
-    ensures { marks_at k result ≡ without q (marks_at k s) }
-{
-    s.on[q] = false;
-    s
-}
-
-// s with the position q.
-pub fn more(mut s: Marks, q: usize, k: usize) -> Marks
-    requires q_lt_k { q < k }
-    requires k_bound { k ≤ 128 }
-    ensures { marks_at k result ≡ with_position q (marks_at k s) }
-{
-    s.on[q] = true;
-    s
-}
-
-// How many of the first k positions are in s.
-pub fn count(s: Marks, k: usize) -> usize
-    requires { k ≤ 128 }
-    ensures { (result ≡ size (marks_at k s)) × (result ≤ 128) }
-{
-    let mut n: usize = 0;
-    let mut d: usize = 0;
-    while d < k {
-        if s.on[d] {
-            n += 1;
-        }
-        d += 1;
-    }
-    n
+    marks.iter().filter(|on| **on).count()
 }

@@ -1,145 +1,107 @@
 // Sifting a set by one question of each position, and Rounds.
 ghost use Rattle.std.specs.Prelude.{◌≡◌, ◌≤◌, ◌<◌, suc};
 ghost use Rattle.meaning.specs.Rules;
-ghost use Rattle.format.specs.Section.{Placed};
-ghost use Rattle.sets.specs.Asks.{marks_at, asks};
+ghost use Rattle.sets.specs.Asks.{marks_of, asks_of};
 ghost use Rattle.sets.specs.Forms.{DoneUpto, DoneNext, Done, KeptIs, way_of};
 
-use crate::members::{count, less};
-use format::Problem;
-use search::{Found, Marks, Question};
+use crate::members::count;
+use search::{Answer, Asked, Marks, Question, Spent};
 
-// What a sifting asks of each position: its initiation, or its step.
+// What a sifting asks of each position: its initiation, or its step. No closure: a caller would have to prove what it asks, which `way_of` says.
 #[derive(Clone, Copy)]
 pub enum Way {
     First,
     Round,
 }
 
-// A set being sifted: what stayed, the decisions used, whether some fell, and whether the budget was used up.
+impl Way {
+    // The question that a way of sifting asks of a position.
+    fn question(self, d: usize) -> Question
+        ensures { result ≡ way_of self d }
+    {
+        match self {
+            Way::First => Question::Initiation(d),
+            Way::Round => Question::Step(d),
+        }
+    }
+}
+
+// A set being sifted: what stayed, the decisions used, and whether some fell.
 #[derive(Clone, Copy)]
 pub struct Sifted {
     pub set: Marks,
     pub used: u64,
+    // no Option: the set is there in both cases, as `SiftedAll` says
     pub removed: bool,
-    pub spent: bool,
 }
 
-// A set that was kept, the decisions used, and whether the budget was used up.
+// A set that was kept, and the decisions used.
 #[derive(Clone, Copy)]
 pub struct Kept {
     pub set: Marks,
     pub used: u64,
-    pub spent: bool,
 }
 
-// The question that a way of sifting asks of a position.
-fn asking(way: Way, d: usize) -> Question
-    ensures { result ≡ way_of way d }
-{
-    match way {
-        Way::First => Question::Initiation(d),
-        Way::Round => Question::Step(d),
-    }
-}
-
-// One position more of a sifting.
-fn sift_at(file: &[u8], p: Problem, s: Marks, way: Way, done: Sifted, d: usize, left: u64) -> Sifted
-    requires placed { Placed file.now p }
-    requires left_bound { left ≤ 4294967295 }
-    requires d_lt_k { d < p.k }
-    requires done_upto { DoneUpto file.now p s way left d done }
-    ensures { DoneNext file.now p s way left (suc d) result }
+// One position more of a sifting: its question is asked of the whole set, and not of what is left of it.
+fn sift_at(
+    of: &Asked<'_>,
+    s: Marks,
+    way: Way,
+    done: Sifted,
+    d: usize,
+    left: u64,
+) -> Result<Sifted, Spent>
+    requires d_lt_k { d < of.now.problem.k }
+    requires done_upto { DoneUpto of.now.file.now of.now.problem s way left d done }
+    ensures { DoneNext of.now.file.now of.now.problem s way left (suc d) result }
 {
     if !s.on[d] {
-        return done;
+        return Ok(done);
     }
-    let used = done.used;
-    let set = done.set;
-    let removed = done.removed;
-    let whole = s; // and not what is left of it
-    let a = search::ask(file, p, whole, asking(way, d), left - used);
+    let a = search::ask(of, s, way.question(d), left - done.used)?;
     match a {
-        Found::Spent => Sifted {
-            set,
-            used,
-            removed,
-            spent: true,
-        },
-        Found::Yes(u) => Sifted {
-            set: less(set, d, p.k),
-            used: used + u,
+        Answer::Yes(u) => Ok(Sifted {
+            set: done.set.without(d),
+            used: done.used + u,
             removed: true,
-            spent: false,
-        },
-        Found::No(u) => Sifted {
-            set,
-            used: used + u,
-            removed,
-            spent: false,
-        },
+        }),
+        Answer::No(u) => Ok(Sifted {
+            set: done.set,
+            used: done.used + u,
+            removed: done.removed,
+        }),
     }
 }
 
 // A set sifted by one question of each of its positions.
-pub fn sift(file: &[u8], p: Problem, s: Marks, way: Way, left: u64) -> Sifted
-    requires placed { Placed file.now p }
-    requires left_bound { left ≤ 4294967295 }
-    ensures { Done file.now p s way left result }
+pub fn sift(of: &Asked<'_>, s: Marks, way: Way, left: u64) -> Result<Sifted, Spent>
+    ensures { Done of.now.file.now of.now.problem s way left result }
 {
-    let k = p.k;
     let mut r = Sifted {
         set: s,
         used: 0,
         removed: false,
-        spent: false,
     };
-    let mut d: usize = 0;
-    while d < k {
-        r = sift_at(file, p, s, way, r, d, left);
-        let spent = r.spent;
-        if spent {
-            return r;
-        }
-        d += 1;
+    for d in 0..of.problem.k {
+        r = sift_at(of, s, way, r, d, left)?;
     }
-    r
+    Ok(r)
 }
 
-// Rounds of s: sift it by its step questions until a round removes none.
-pub fn rounds(file: &[u8], p: Problem, s: Marks, left: u64) -> Kept
-    requires placed { Placed file.now p }
-    requires left_bound { left ≤ 4294967295 }
-    ensures { KeptIs p.k left (Rules.rounds (asks file.now p) (marks_at p.k s)) result }
+// Rounds of s: sift it by its step questions until a round removes none. Each round but the last removes one at the least.
+pub fn rounds(of: &Asked<'_>, s: Marks, left: u64) -> Result<Kept, Spent>
+    ensures { KeptIs of.now.problem.k left (Rules.rounds (asks_of of.now) (marks_of of.now s)) result }
 {
     let mut set = s;
     let mut used: u64 = 0;
-    let mut fuel = count(s, p.k) + 1;
-    while 0 < fuel {
-        let r = sift(file, p, set, Way::Round, left - used);
-        let spent = r.spent;
-        if spent {
-            return Kept {
-                set,
-                used,
-                spent: true,
-            };
-        }
+    let fuel = count(&s.on[..of.problem.k]) + 1;
+    for _ in 0..fuel {
+        let r = sift(of, set, Way::Round, left - used)?;
         used += r.used;
-        let removed = r.removed;
-        if !removed {
-            return Kept {
-                set,
-                used,
-                spent: false,
-            };
+        if !r.removed {
+            return Ok(Kept { set, used });
         }
         set = r.set;
-        fuel -= 1;
     }
-    Kept {
-        set,
-        used,
-        spent: false,
-    }
+    Ok(Kept { set, used })
 }

@@ -1,17 +1,17 @@
 -- A number as a word: digits alone, and at least one.
-use Rattle.std.specs.Prelude.{ℕ, ◌+◌, ◌*◌, ◌-◌, Bool, true, ◌&&◌, cond, List, [], ◌∷◌, length, leb, ltb}
-use Rattle.spelling.specs.declared.number.Number.{Number}
-use Rattle.spelling.specs.declared.number.Number.TheVariants.{Value, Over, Not}
+use Rattle.std.specs.Prelude.{ℕ, ◌+◌, ◌*◌, ◌-◌, Bool, ◌&&◌, cond, List, [], ◌∷◌, length, leb, ltb, Result, Ok, Err}
+use Rattle.std.specs.List.{list_all}
+use Rattle.spelling.specs.declared.number.NumberFault.{NumberFault}
+use Rattle.spelling.specs.declared.number.NumberFault.TheVariants.{Over, Not}
 
 -- a digit is one of `0` to `9`, which are 48 to 57
-unfoldable pub is_digit : ℕ → Bool
+abbrev pub is_digit : ℕ → Bool
 is_digit b = leb 48 b && leb b 57
 
-unfoldable pub all_digits : List ℕ → Bool
-all_digits [] = true
-all_digits (b ∷ w) = is_digit b && all_digits w
+abbrev pub all_digits : List ℕ → Bool
+all_digits w = list_all is_digit w
 
-unfoldable pub is_number : List ℕ → Bool
+abbrev pub is_number : List ℕ → Bool
 is_number w = ltb 0 (length w) && all_digits w
 
 -- the value of the digits, by Horner's rule: ten times what stands before a digit, and the digit
@@ -23,9 +23,9 @@ unfoldable pub value : List ℕ → ℕ
 value w = value_after 0 w
 
 -- a value that is at most so large
-unfoldable pub up_to : ℕ → ℕ → Number
-up_to most v = cond (ltb most v) Over (Value v)
+abbrev pub up_to : ℕ → ℕ → Result ℕ NumberFault
+up_to most v = cond (ltb most v) (Err Over) (Ok v)
 
 -- what a word is as a number
-unfoldable pub number_of : List ℕ → ℕ → Number
-number_of w most = cond (is_number w) (up_to most (value w)) Not
+unfoldable pub number_of : List ℕ → ℕ → Result ℕ NumberFault
+number_of w most = cond (is_number w) (up_to most (value w)) (Err Not)

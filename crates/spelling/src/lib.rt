@@ -1,8 +1,8 @@
-// One word by itself: what it is as a number, and whether two words are the same.
+// One word by itself: what it is as a number, and how it starts.
 #![tactic(auto)]
 
 mod compare;
 mod number;
 
-pub use compare::{is_circuit, is_option, same};
-pub use number::{Number, read_number};
+pub use compare::{is_circuit, is_option};
+pub use number::{NumberFault, read_number};

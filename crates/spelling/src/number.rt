@@ -1,79 +1,47 @@
 // A number as a word.
-ghost use Rattle.std.specs.Prelude.{◌≡◌, ◌-◌, ◌<◌};
-ghost use Rattle.spelling.specs.Numbers.{is_digit, all_digits, is_number, value, up_to, number_of};
+ghost use Rattle.std.specs.Prelude.{◌≡◌};
+ghost use Rattle.spelling.specs.Numbers.{all_digits, is_number, value, up_to, number_of};
 
-// What a word is as a number: its value, over the largest that is allowed, or no number.
-#[derive(Clone, Copy)]
-pub enum Number {
-    Value(u32),
+// Why a word is no number that is small enough.
+#[derive(Clone, Copy, PartialEq, Eq)]
+pub enum NumberFault {
     Over,
     Not,
-}
-
-fn is_digit(b: u8) -> bool
-    ensures { result ≡ is_digit b }
-{
-    if b < 48 {
-        return false;
-    }
-    b <= 57
 }
 
 fn all_digits(word: &[u8]) -> bool
     ensures { result ≡ all_digits word.now }
 {
-    let mut i: usize = 0;
-    while i < word.len() {
-        if !is_digit(word[i]) {
-            return false;
-        }
-        i += 1;
-    }
-    true
+    word.iter().all(|b| b.is_ascii_digit())
 }
 
 // Digits alone, and at least one.
 fn is_number(word: &[u8]) -> bool
     ensures { result ≡ is_number word.now }
 {
-    if word.len() == 0 {
-        return false;
-    }
-    all_digits(word)
-}
-
-// What a digit stands for (48 is `0`).
-fn digit_value(b: u8) -> u64
-    ensures { (result ≡ b - 48) × (result < 256) }
-{
-    if b < 48 {
-        return 0;
-    }
-    (b - 48) as u64
+    !word.is_empty() && all_digits(word)
 }
 
 // The value by Horner's rule. What is over the largest once stays over it, so that no word is too long.
-fn up_to(word: &[u8], most: u32) -> Number
+fn up_to(word: &[u8], most: u32) -> Result<u32, NumberFault>
     ensures { result ≡ up_to most (value word.now) }
 {
     let mut v: u64 = 0;
-    let mut i: usize = 0;
-    while i < word.len() {
-        v = 10 * v + digit_value(word[i]);
-        if (most as u64) < v {
-            return Number::Over;
+    for b in word {
+        v = 10 * v + u64::from(b.saturating_sub(b'0'));
+        if u64::from(most) < v {
+            return Err(NumberFault::Over);
         }
-        i += 1;
     }
-    Number::Value(v as u32)
+    Ok(v as u32)
 }
 
 // A word of any length as a number that is at most so large.
-pub fn read_number(word: &[u8], most: u32) -> Number
+pub fn read_number(word: &[u8], most: u32) -> Result<u32, NumberFault>
     ensures { result ≡ number_of word.now most }
 {
     if !is_number(word) {
-        return Number::Not;
+        return Err(NumberFault::Not);
     }
     up_to(word, most)
 }

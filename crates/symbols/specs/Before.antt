@@ -1,6 +1,6 @@
 -- Symbol lines before a place: what they name, and how they are walked from the first on.
 use Rattle.std.specs.Prelude.{ℕ, ◌+◌, ◌≤◌, ◌<◌, ◌≡◌, Bool, ◌&&◌, ◌||◌, cond, length, get_or, drop, ltb, leb, eqb}
-use Rattle.std.proofs.Common.{arith, ◌∙◌, leb-true, ltb-true, eq-eqb, ne_eqb}
+use Rattle.std.proofs.Common.{arith, ◌∙◌, leb-true, ltb-true}
 use Rattle.std.proofs.Math.Path.{refl, sym, ap, subst}
 use Rattle.std.proofs.Math.Bool.{true, false, not}
 use mathlib.Core.List.{List, [], ◌∷◌, ◌++◌}
@@ -10,7 +10,8 @@ use Rattle.meaning.specs.Lines.{space, newline, until, line_at, ended, next_line
 use Rattle.meaning.specs.CircuitText.{Header, Symbol, positions, symbol_digits, symbol_of, same_symbol, symbol_right}
 use Rattle.laws.specs.Basics.{and_left, and_right}
 use Rattle.lines.specs.declared.number.Number.{Number}
-use Rattle.lines.specs.Numbers.{huge, capped, digits_of, span, worth, Stands}
+use Rattle.lines.specs.Digits.{huge, capped, digits_of}
+use Rattle.lines.specs.Numbers.{worth}
 use Rattle.symbols.specs.declared.Counts.{Counts}
 use Rattle.symbols.specs.Symbols.{header_from, Small, named_right, Named, Earlier, Listed, symbol}
 use Rattle.symbols.specs.Form.{some_byte, all_digits}
@@ -58,29 +59,24 @@ is_named text at counts inside small closed right =
     }
 
 -- the number after the letter is the position
-pub place_of : (text : List ℕ) (at : ℕ) → Named text at → (x : Number) → Stands text x → span text x ≡ digits_of (drop (at + 1) text)
+pub place_of : (text : List ℕ) (at : ℕ) → Named text at → (x : Number) → x.digits.now ≡ digits_of (drop (at + 1) text)
     → x.value ≡ (symbol_of (line_at text at)).at
 unfolding worth symbol_of capped
-place_of text at named x stands whole =
-    let same : worth text x ≡ (symbol_of (line_at text at)).at = ap decimal (whole ∙ sym named.digits) in
-    let below : worth text x < huge = omega (arith, same, named.small) in
-    stands.value ∙ (rw (lt-leb huge (worth text x) below) same)
+place_of text at named x whole =
+    let same : worth x ≡ (symbol_of (line_at text at)).at = ap decimal (whole ∙ sym named.digits) in
+    let below : worth x < huge = omega (arith, same, named.small) in
+    x.valued ∙ (rw (lt-leb huge (worth x) below) same)
 
 pub symbol_is : (text : List ℕ) (at : ℕ) → Named text at → (letter place : ℕ) → letter ≡ get_or text at 0
     → place ≡ (symbol_of (line_at text at)).at → symbol letter place ≡ symbol_of (line_at text at)
 unfolding symbol
 symbol_is text at named letter place l p = rw (l ∙ sym named.letter, p)
 
--- another letter, or the positions compared
-module _ (text : List ℕ) (at : ℕ) (named : Named text at) (letter place : ℕ) where
-  pub other_letter : (letter ≡ get_or text at 0 → ⊥) → false ≡ same_symbol (symbol letter place) (symbol_of (line_at text at))
-  unfolding same_symbol symbol
-  other_letter other = sym (rw (ne_eqb letter (symbol_of (line_at text at)).letter (λ e. other (e ∙ named.letter))))
-
-  pub same_letter : letter ≡ get_or text at 0 → (n : ℕ) → n ≡ (symbol_of (line_at text at)).at
-      → eqb place n ≡ same_symbol (symbol letter place) (symbol_of (line_at text at))
-  unfolding same_symbol symbol
-  same_letter same n is = sym (rw (eq-eqb letter (symbol_of (line_at text at)).letter (same ∙ sym named.letter), is))
+-- two symbols are the same where their letters and their places are
+pub compared : (letter place letter' place' : ℕ) (s : Symbol) → symbol letter' place' ≡ s → (same : Bool)
+    → same ≡ (eqb letter letter' && eqb place place') → same ≡ same_symbol (symbol letter place) s
+unfolding same_symbol symbol
+compared letter place letter' place' s is same same_is = same_is ∙ ap (same_symbol (symbol letter place)) is
 
 -- ---- lines from one place to another
 

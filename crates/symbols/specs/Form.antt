@@ -14,8 +14,9 @@ use Rattle.meaning.specs.Lines.{newline, space, until, line_at, is_empty, is_dig
 use Rattle.meaning.specs.CircuitText.{Header, positions, symbol_digits, symbol_of, same_bytes, begins_comment}
 use Rattle.laws.specs.Basics.{not_both, and_left, and_right, nonzero}
 use Rattle.lines.specs.declared.number.Number.{Number}
-use Rattle.lines.specs.Numbers.{huge, capped, digits_of, span, worth, Stands}
-use Rattle.lines.specs.Past.{line_byte, line_none, long, line_number, no_digit_after}
+use Rattle.lines.specs.Digits.{huge, capped, digits_of}
+use Rattle.lines.specs.Numbers.{worth}
+use Rattle.lines.specs.Past.{line_byte, line_none, line_number, no_digit_after}
 use Rattle.lines.specs.PastLaws.{some_digits}
 use Rattle.symbols.specs.Symbols.{LineTo, named_right}
 
@@ -127,33 +128,31 @@ module _ (text : List ℕ) (at end : ℕ) (line : LineTo text at end) (closed : 
   pub nothing_named : (h : Header) → end ≡ at → false ≡ named_right h (line_at text at)
   nothing_named h none = sym (too_short h (line_at text at) (omega (arith, line.is, none)))
 
-  module _ (some : end ≡ at → ⊥) (x : Number) (stands : Stands text x) (start : x.start ≡ at + 1)
-      (whole : span text x ≡ digits_of (drop (at + 1) text)) where
+  module _ (some : end ≡ at → ⊥) (x : Number) (whole : x.digits.now ≡ digits_of (drop (at + 1) text)) where
     starts : line_at text at ≡ (get_or text at 0 ∷ line_at text (at + 1))
     starts =
         let more : 0 < length (line_at text at) = omega (arith, line.is, some) in
         some_byte text at (omega (arith, line.is)) more
 
-    digits_are : symbol_digits (line_at text at) ≡ span text x ++ until space (line_at text x.end)
+    digits_are : symbol_digits (line_at text at) ≡ x.digits.now ++ until space (line_at text (at + 1 + length x.digits.now))
     unfolding symbol_digits
     digits_are =
         ap (λ (l : List ℕ). until space (drop 1 l)) starts
-        ∙ ap (until space) (line_number text (at + 1) x stands start whole)
-        ∙ until_digits space (span text x) (line_at text x.end) (omega arith) stands.digits
+        ∙ ap (until space) (line_number text (at + 1) x whole)
+        ∙ until_digits space x.digits.now (line_at text (at + 1 + length x.digits.now)) (omega arith) x.digital
 
     -- the line goes on after its digits
-    pub goes_on : end ≡ x.end + length (line_at text x.end)
+    pub goes_on : end ≡ at + 1 + length x.digits.now + length (line_at text (at + 1 + length x.digits.now))
     goes_on =
         omega (
           arith,
           line.is,
           ap length starts,
-          ap length (line_number text (at + 1) x stands start whole),
-          length-append (span text x) (line_at text x.end),
-          long text (at + 1) x stands start whole,
+          ap length (line_number text (at + 1) x whole),
+          length-append x.digits.now (line_at text (at + 1 + length x.digits.now)),
         )
 
-    pub no_name : (h : Header) → end ≤ x.end + 1 → false ≡ named_right h (line_at text at)
+    pub no_name : (h : Header) → end ≤ at + 1 + length x.digits.now + 1 → false ≡ named_right h (line_at text at)
     no_name h short =
         sym
         (too_short h (line_at text at)
@@ -161,58 +160,57 @@ module _ (text : List ℕ) (at end : ℕ) (line : LineTo text at end) (closed : 
           arith,
           line.is,
           ap length digits_are,
-          length-append (span text x) (until space (line_at text x.end)),
-          long text (at + 1) x stands start whole,
+          length-append x.digits.now (until space (line_at text (at + 1 + length x.digits.now))),
         )))
 
-    module _ (named : x.end + 1 < end) where
-      pub no_space : (h : Header) → (get_or text x.end 0 ≡ space → ⊥) → false ≡ named_right h (line_at text at)
+    module _ (named : at + 1 + length x.digits.now + 1 < end) where
+      pub no_space : (h : Header) → (get_or text (at + 1 + length x.digits.now) 0 ≡ space → ⊥) → false ≡ named_right h (line_at text at)
       unfolding until
       no_space h other =
-          let b = get_or text x.end 0 in
-          let inside : x.end < length text = omega arith in
-          let more : 0 < length (line_at text x.end) = omega (arith, goes_on) in
-          let rest : until space (line_at text x.end) ≡ (b ∷ until space (line_at text (x.end + 1))) =
-          ap (until space) (some_byte text x.end inside more) ∙ rw (ne_eqb b space other) in
-          let digits = digits_are ∙ ap (λ (l : List ℕ). span text x ++ l) rest in
+          let b = get_or text (at + 1 + length x.digits.now) 0 in
+          let inside : at + 1 + length x.digits.now < length text = omega arith in
+          let more : 0 < length (line_at text (at + 1 + length x.digits.now)) = omega (arith, goes_on) in
+          let rest : until space (line_at text (at + 1 + length x.digits.now)) ≡ (b ∷ until space (line_at text (at + 1 + length x.digits.now + 1))) =
+          ap (until space) (some_byte text (at + 1 + length x.digits.now) inside more) ∙ rw (ne_eqb b space other) in
+          let digits = digits_are ∙ ap (λ (l : List ℕ). x.digits.now ++ l) rest in
           sym
           (no_position h (line_at text at)
           (ap is_number digits
-          ∙ not_number (span text x) b (until space (line_at text (x.end + 1))) (no_digit_after text (at + 1) x stands start whole inside)))
+          ∙ not_number x.digits.now b (until space (line_at text (at + 1 + length x.digits.now + 1))) (no_digit_after text (at + 1) x whole inside)))
 
-      module _ (is : get_or text x.end 0 ≡ space) where
-        digits_is : symbol_digits (line_at text at) ≡ span text x
+      module _ (is : get_or text (at + 1 + length x.digits.now) 0 ≡ space) where
+        digits_is : symbol_digits (line_at text at) ≡ x.digits.now
         unfolding until
         digits_is =
-            let inside : x.end < length text = omega arith in
-            let more : 0 < length (line_at text x.end) = omega (arith, goes_on) in
-            let rest : until space (line_at text x.end) ≡ [] =
-            ap (until space) (some_byte text x.end inside more) ∙ rw (eq-eqb (get_or text x.end 0) space is) in
-            digits_are ∙ ap (λ (l : List ℕ). span text x ++ l) rest ∙ append-nil (span text x)
+            let inside : at + 1 + length x.digits.now < length text = omega arith in
+            let more : 0 < length (line_at text (at + 1 + length x.digits.now)) = omega (arith, goes_on) in
+            let rest : until space (line_at text (at + 1 + length x.digits.now)) ≡ [] =
+            ap (until space) (some_byte text (at + 1 + length x.digits.now) inside more) ∙ rw (eq-eqb (get_or text (at + 1 + length x.digits.now) 0) space is) in
+            digits_are ∙ ap (λ (l : List ℕ). x.digits.now ++ l) rest ∙ append-nil x.digits.now
 
-        pub no_digits : (h : Header) → x.end ≡ at + 1 → false ≡ named_right h (line_at text at)
+        pub no_digits : (h : Header) → at + 1 + length x.digits.now ≡ at + 1 → false ≡ named_right h (line_at text at)
         unfolding is_number is_empty
         no_digits h none =
-            let empty = no_bytes (span text x) (omega (arith, long text (at + 1) x stands start whole, none)) in
+            let empty = no_bytes x.digits.now (omega (arith, none)) in
             sym (no_position h (line_at text at) (ap is_number (digits_is ∙ empty)))
 
         letter_is : (symbol_of (line_at text at)).letter ≡ get_or text at 0
         unfolding symbol_of
         letter_is = ap (λ (l : List ℕ). get_or l 0 0) starts
 
-        place_is : (symbol_of (line_at text at)).at ≡ worth text x
+        place_is : (symbol_of (line_at text at)).at ≡ worth x
         unfolding symbol_of worth
         place_is = ap decimal digits_is
 
         -- all is there: the position decides
-        pub by_place : (h : Header) → (x.end ≡ at + 1 → ⊥) → (n : ℕ) → n ≡ positions h (get_or text at 0) → n < huge
+        pub by_place : (h : Header) → (at + 1 + length x.digits.now ≡ at + 1 → ⊥) → (n : ℕ) → n ≡ positions h (get_or text at 0) → n < huge
             → ltb x.value n ≡ named_right h (line_at text at)
-        unfolding named_right
+        unfolding named_right worth
         by_place h other n count small =
             let digits : is_number (symbol_digits (line_at text at)) ≡ true =
-            ap is_number digits_is ∙ some_digits text (at + 1) x stands start whole other in
+            ap is_number digits_is ∙ some_digits text (at + 1) x whole other in
             let fits : length (symbol_digits (line_at text at)) + 3 ≤ length (line_at text at) =
-            omega (arith, ap length digits_is, line.is, long text (at + 1) x stands start whole) in
+            omega (arith, ap length digits_is, line.is) in
             sym
             (rw (digits, le-leb (length (symbol_digits (line_at text at)) + 3) (length (line_at text at)) fits, and_true)
-            (rw (letter_is, place_is, ← count) (sym (ap (λ (v : ℕ). ltb v n) stands.value ∙ capped_less (worth text x) n small))))
+            (rw (letter_is, place_is, ← count) (sym (ap (λ (v : ℕ). ltb v n) x.valued ∙ capped_less (worth x) n small))))

@@ -1,14 +1,15 @@
 -- Symbol lines as far as they are read: all up to here are right, and what is left decides.
-use Rattle.std.specs.Prelude.{ℕ, ◌+◌, ◌≤◌, ◌<◌, ◌≡◌, Bool, true, false, List, [], ◌∷◌, ◌++◌, length}
-use Rattle.std.proofs.Common.{arith, ◌∙◌}
+use Rattle.std.specs.Prelude.{ℕ, ◌+◌, ◌≤◌, ◌<◌, ◌≡◌, Bool, true, false, List, [], ◌∷◌, ◌++◌, length, Result, Ok, Err}
+use Rattle.std.proofs.Common.{◌∙◌}
 use Rattle.std.proofs.Math.Path.{refl, sym, ap, subst}
 use Rattle.std.proofs.Math.Option.{Option}
-use Rattle.meaning.specs.Lines.{line_at}
+use Rattle.meaning.specs.Lines.{line_at, ended, next_line}
 use Rattle.meaning.specs.CircuitText.{Symbol, symbol_of, symbol_right, begins_comment, symbols_fault}
 use Rattle.symbols.specs.declared.Counts.{Counts}
-use Rattle.symbols.specs.declared.Fault.{Fault}
-use Rattle.symbols.specs.Symbols.{fault_of, header_from, Small, LineTo, Earlier, Listed}
-use Rattle.symbols.specs.Walk.{no_more, not_closed, comment_here, wrong_here, right_here, is_closed, is_open, next_is}
+use Rattle.lines.specs.declared.fault.Fault.{Fault}
+use Rattle.lines.specs.Faults.{fault_of}
+use Rattle.symbols.specs.Symbols.{header_from, Small, LineTo, Earlier, Listed}
+use Rattle.symbols.specs.Walk.{no_more, not_closed, comment_here, wrong_here, right_here, next_is}
 use Rattle.symbols.specs.Before.{earlier_more, is_named, form_right}
 
 unfoldable pub fault_with : List ℕ → Counts → Bool → List Symbol → ℕ → Option ℕ
@@ -22,7 +23,7 @@ pub record Read (text : List ℕ) (counts : Counts) (judged : Bool) (at p : ℕ)
 
 module _ (text : List ℕ) (counts : Counts) (judged : Bool) (at : ℕ) where
   -- the answer
-  abbrev Whole : Fault
+  abbrev Whole : Result (Unit {0}) Fault
   Whole = fault_of (symbols_fault (length text) judged (header_from counts) text [] at)
 
   pub read_none : at ≤ length text → Read text counts judged at at
@@ -30,28 +31,26 @@ module _ (text : List ℕ) (counts : Counts) (judged : Bool) (at : ℕ) where
   read_none inside = record { listed = record { before = []; earlier = refl }; left = refl; inside = inside }
 
   module _ (p : ℕ) (read : Read text counts judged at p) where
-    pub read_all : length text ≤ p → record { found = false; at = 0 } ≡ Whole
+    pub read_all : length text ≤ p → Ok tt ≡ Whole
     unfolding fault_with fault_of
     read_all past =
         sym (ap fault_of (read.left ∙ no_more judged (header_from counts) text (length text) read.listed.before p past))
 
-    module _ (end : ℕ) (line : LineTo text p end) (more : p < length text) where
-      pub cut_here : length text ≤ end → record { found = true; at = p } ≡ Whole
+    module _ (more : p < length text) where
+      pub cut_here : false ≡ ended text p → Err (record { at = p }) ≡ Whole
       unfolding fault_with fault_of
-      cut_here past =
+      cut_here open_here =
           sym
-          (ap fault_of
-          (read.left
-          ∙ not_closed judged (header_from counts) text read.listed.before p more (is_open text p end line past)))
+          (ap fault_of (read.left ∙ not_closed judged (header_from counts) text read.listed.before p more (sym open_here)))
 
-      module _ (closed : end < length text) where
-        pub comment_ends : true ≡ begins_comment (line_at text p) → record { found = false; at = 0 } ≡ Whole
+      module _ (closed : true ≡ ended text p) where
+        pub comment_ends : true ≡ begins_comment (line_at text p) → Ok tt ≡ Whole
         unfolding fault_with fault_of
         comment_ends is =
             sym
             (ap fault_of
             (read.left
-            ∙ comment_here judged (header_from counts) text read.listed.before p more (is_closed text p end line closed) (sym is)))
+            ∙ comment_here judged (header_from counts) text read.listed.before p more (sym closed) (sym is)))
 
         -- a line of another kind, judged
         module _ (other : false ≡ begins_comment (line_at text p)) (right : Bool)
@@ -59,32 +58,47 @@ module _ (text : List ℕ) (counts : Counts) (judged : Bool) (at : ℕ) where
           here : right ≡ symbol_right judged (header_from counts) read.listed.before (line_at text p)
           here = is read.listed.before read.listed.earlier
 
-          pub wrong_line : right ≡ false → record { found = true; at = p } ≡ Whole
+          pub wrong_line : right ≡ false → Err (record { at = p }) ≡ Whole
           unfolding fault_with fault_of
           wrong_line wrong =
               sym
               (ap fault_of
               (read.left
-              ∙ wrong_here judged (header_from counts) text read.listed.before p more (is_closed text p end line closed) (sym other)
-              (sym here ∙ wrong)))
+              ∙ wrong_here judged (header_from counts) text read.listed.before p more (sym closed) (sym other) (sym here ∙ wrong)))
 
-          pub read_more : right ≡ true → Small counts → Read text counts judged at (end + 1)
+          pub read_more : right ≡ true → Small counts → (next : ℕ) → next_line text p ≡ next → next ≤ length text
+              → Read text counts judged at next
           unfolding fault_with
-          read_more good small =
-              let ended_here = is_closed text p end line closed in
+          read_more good small next next_is inside =
               let form = form_right judged (header_from counts) read.listed.before (line_at text p) (sym good ∙ here) in
-              let named = is_named text p counts more small ended_here form in
-              let next = next_is text p end line in
+              let named = is_named text p counts more small (sym closed) form in
               record {
                 listed = record {
                   before = read.listed.before ++ (symbol_of (line_at text p) ∷ []);
                   earlier =
-                      subst (Earlier text at (read.listed.before ++ (symbol_of (line_at text p) ∷ []))) next
+                      subst (Earlier text at (read.listed.before ++ (symbol_of (line_at text p) ∷ []))) next_is
                       (earlier_more text at read.listed.before p read.listed.earlier named);
                 };
                 left =
                     read.left
-                    ∙ right_here judged (header_from counts) text read.listed.before p more ended_here (sym other) (sym here ∙ good)
-                    ∙ ap (fault_with text counts judged (read.listed.before ++ (symbol_of (line_at text p) ∷ []))) next;
-                inside = omega arith;
+                    ∙ right_here judged (header_from counts) text read.listed.before p more (sym closed) (sym other) (sym here ∙ good)
+                    ∙ ap (fault_with text counts judged (read.listed.before ++ (symbol_of (line_at text p) ∷ []))) next_is;
+                inside = inside;
               }
+
+-- ---- a line is taken for the one that stands at a place
+
+module _ {lent text : List ℕ} {start p : ℕ} (text_is : lent ≡ text) (place_is : start ≡ p) where
+  pub same_line : line_at lent start ≡ line_at text p
+  same_line = λ k. line_at (text_is k) (place_is k)
+
+  pub same_next : (end : ℕ) → LineTo lent start end → next_line text p ≡ end + 1
+  same_next end line = sym (λ k. next_line (text_is k) (place_is k)) ∙ next_is lent start end line
+
+  pub right_there : (judged right : Bool) (counts : Counts) (at : ℕ)
+      → ((before : List Symbol) → Earlier lent at before start
+      → right ≡ symbol_right judged (header_from counts) before (line_at lent start))
+      → (before : List Symbol) → Earlier text at before p → right ≡ symbol_right judged (header_from counts) before (line_at text p)
+  right_there judged right counts at is before h =
+      is before (subst (λ (t : List ℕ). Earlier t at before start) (sym text_is) (subst (Earlier text at before) (sym place_is) h))
+      ∙ ap (symbol_right judged (header_from counts) before) same_line

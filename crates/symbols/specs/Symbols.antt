@@ -1,16 +1,9 @@
 -- What the contracts say of symbol lines: the answer, the header that counts give, the form of a line, and the lines before a place.
 use Rattle.std.specs.Prelude.{ℕ, ◌+◌, ◌≤◌, ◌<◌, ◌≡◌, Bool, true, false, ◌&&◌, List, [], ◌∷◌, length, get_or, drop, ltb, leb}
-use Rattle.std.proofs.Math.Option.{Option, none, some}
 use Rattle.meaning.specs.Lines.{line_at, ended, next_line, is_number}
 use Rattle.meaning.specs.CircuitText.{Header, Symbol, positions, symbol_digits, symbol_of}
 use Rattle.lines.specs.Numbers.{huge, digits_of}
 use Rattle.symbols.specs.declared.Counts.{Counts}
-use Rattle.symbols.specs.declared.Fault.{Fault}
-
--- the place of a line at fault, or none
-unfoldable pub fault_of : Option ℕ → Fault
-fault_of none = record { found = false; at = 0 }
-fault_of (some p) = record { found = true; at = p }
 
 -- a header with these counts: no other of its numbers is looked at
 unfoldable pub header_from : Counts → Header

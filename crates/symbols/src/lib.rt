@@ -7,19 +7,14 @@ pub mod symbol;
 
 ghost use Rattle.std.specs.Prelude.{◌≡◌, [], ◌≤◌, length};
 ghost use Rattle.meaning.specs.CircuitText.{symbols_fault};
-ghost use Rattle.symbols.specs.Symbols.{fault_of, header_from, Small};
+ghost use Rattle.lines.specs.Faults.{fault_of};
+ghost use Rattle.symbols.specs.Symbols.{header_from, Small};
 
-use line::{begins_comment, line_end};
-use symbol::line_right;
-
-// The place of the first line at fault, if one is found.
-#[derive(Clone, Copy)]
-pub struct Fault {
-    pub found: bool,
-    pub at: usize,
-}
+use line::line_from;
+use lines::fault::Fault;
 
 // How many there are to name: inputs, latches, outputs, bad literals, constraints, justice properties and fairness constraints.
+// That each is below HUGE stays a clause (`Small`): in the type it would put seven proofs into the definitions `any_count` and `counts_of`.
 #[derive(Clone, Copy)]
 pub struct Counts {
     pub i: usize,
@@ -32,30 +27,24 @@ pub struct Counts {
 }
 
 // Symbol lines from a place on, in any order, then, perhaps, the comment. Whether a position is named twice is asked only where `judged`.
-pub fn symbols_fault(text: &[u8], counts: Counts, judged: bool, at: usize) -> Fault
+pub fn symbols_fault(text: &[u8], counts: Counts, judged: bool, at: usize) -> Result<(), Fault>
     requires at_in_bounds { at ≤ length text.now }
     requires small { Small counts }
     ensures { result ≡ fault_of (symbols_fault (length text.now) judged (header_from counts) text.now [] at) }
 {
     let mut p = at;
+    // A walk from line to line, and so by places that jump: nothing is counted by hand.
     while p < text.len() {
-        let end = line_end(text, p);
-        if text.len() <= end {
-            return Fault { found: true, at: p };
+        let Some(line) = line_from(text, p) else {
+            return Err(Fault { at: p });
+        };
+        if line.begins_comment() {
+            return Ok(());
         }
-        if begins_comment(text, p, end) {
-            return Fault {
-                found: false,
-                at: 0,
-            };
+        if !line.is_right(counts, judged, at) {
+            return Err(Fault { at: p });
         }
-        if !line_right(text, counts, judged, at, p, end) {
-            return Fault { found: true, at: p };
-        }
-        p = end + 1;
+        p = line.end + 1;
     }
-    Fault {
-        found: false,
-        at: 0,
-    }
+    Ok(())
 }

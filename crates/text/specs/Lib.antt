@@ -4,6 +4,7 @@ pub mod Page
 pub mod Numbers
 pub mod Listing
 pub mod PageLaws
+pub mod Pages
 pub mod NumberLaws
 pub mod Filled
 pub mod LineLaws

@@ -1,29 +1,22 @@
 // A form with numbers filled in.
-ghost use Rattle.text.specs.Page.{Appends};
+ghost use Rattle.std.specs.Prelude.{slice_index};
+ghost use Rattle.text.specs.Pages.{Puts};
 ghost use Rattle.text.specs.Filled.{filled};
 
-use crate::page::{put, put_number};
+use crate::page::Page;
 
-// A form with numbers filled in: each `#` of the form stands for the next of three numbers.
-pub fn put_filled(out: &mut [u8], at: usize, form: &[u8], a: u64, b: u64, c: u64) -> usize
-    ensures { Appends (filled form.now a b c) out.old at out.new result }
-{
-    let mut next = at;
-    let mut first = a;
-    let mut second = b;
-    let mut third = c;
-    let mut i: usize = 0;
-    while i < form.len() {
-        let byte = form[i];
-        if byte == b'#' {
-            next = put_number(out, next, first);
-            first = second;
-            second = third;
-            third = 0;
-        } else {
-            next = put(out, next, byte);
+impl<'a> Page<'a> {
+    // A form with numbers filled in: each `#` of the form stands for the next of the first three numbers, and for 0 where there is none.
+    pub fn put_filled(&mut self, form: &[u8], numbers: &[u64])
+        ensures { Puts (filled form.now (slice_index numbers.now 0) (slice_index numbers.now 1) (slice_index numbers.now 2)) self.old self.new }
+    {
+        let mut left = numbers[..numbers.len().min(3)].iter();
+        for byte in form {
+            if *byte == b'#' {
+                self.put_number(left.next().copied().unwrap_or(0));
+            } else {
+                self.put(*byte);
+            }
         }
-        i += 1;
     }
-    next
 }

@@ -5,6 +5,5 @@ mod filled;
 mod listing;
 mod page;
 
-pub use filled::put_filled;
 pub use listing::{listing_text, put_row, row_end};
-pub use page::{put, put_all, put_number};
+pub use page::Page;

@@ -1,40 +1,23 @@
 -- Laws by which causes are found: a line of so many numbers, and the counts of a header.
-use Rattle.std.specs.Prelude.{ℕ, ◌+◌, ◌≤◌, ◌<◌, ◌≡◌, Bool, true, false, not, ◌&&◌, cond, List, length, eqb}
-use Rattle.std.proofs.Common.{ap, ◌∙◌, arith, eq-eqb, ne_eqb, ltb-true, le-leb}
+use Rattle.std.specs.Prelude.{ℕ, ◌+◌, ◌≤◌, ◌<◌, ◌≡◌, Bool, true, false, ◌&&◌, cond, List, length, refl, Option, Some, None, is_some}
+use Rattle.std.proofs.Common.{ap, ◌∙◌, arith, ltb-true, le-leb}
 use Rattle.meaning.specs.File.{between}
 use Rattle.meaning.specs.Lines.{line_at, ended, next_line, words, of_numbers}
-use Rattle.meaning.specs.CircuitText.{Header}
 use Rattle.laws.specs.Basics.{and_left, and_right}
 use Rattle.lines.specs.Past.{line_past}
 use Rattle.sections.specs.Split.{numbers_count, numbers_all}
-use Rattle.symbols.specs.declared.Counts.{Counts}
 use Rattle.symbols.specs.Symbols.{LineTo}
 use Rattle.circuit_text.specs.Header.{WidthIs}
 use Rattle.text_faults.specs.Causes.{numbered, five_to_nine, Row}
-use Rattle.text_faults.specs.declared.sizes.Sizes.{Sizes}
-use Rattle.text_faults.specs.declared.kind.Kind.{Kind}
-use Rattle.text_faults.specs.declared.cause.Cause.{Cause}
-use Rattle.text_faults.specs.declared.circuit.Fault.{Fault}
-use Rattle.text_faults.specs.Places.{line_number}
-use Rattle.text_faults.specs.Sizes.{sizes_of}
-use Rattle.text_faults.specs.Kinds.{kind_of}
-use Rattle.text_faults.specs.Circuits.{below_huge, counts_of, line_cause, line_fault}
 
--- what is chosen where the test is known
-pub chosen : {A : Type 0} (b : Bool) (x y : A) → b ≡ true → cond b x y ≡ x
-chosen b x y e = rw e
-
-pub passed : {A : Type 0} (b : Bool) (x y : A) → b ≡ false → cond b x y ≡ y
-passed b x y e = rw e
-
--- the place after a line of so many numbers is no 0
-pub numbered_is : (width : ℕ) (text : List ℕ) (at r : ℕ) → r ≡ line_past width text at → not (eqb r 0) ≡ numbered width text at
-unfolding numbered line_past next_line
-numbered_is width text at r is = go (ended text at && of_numbers width (line_at text at)) is
+-- a place after a line of so many numbers tells that it is one
+pub numbered_is : (width : ℕ) (text : List ℕ) (at : ℕ) (r : Option ℕ) → r ≡ line_past width text at → is_some r ≡ numbered width text at
+unfolding numbered line_past
+numbered_is width text at r is = ap is_some is ∙ go (ended text at && of_numbers width (line_at text at))
   where
-    go : (b : Bool) → r ≡ cond b (next_line text at) 0 → not (eqb r 0) ≡ b
-    go true h = ap not (ne_eqb r 0 (λ e. omega (arith, h, e)))
-    go false h = ap not (eq-eqb r 0 h)
+    go : (b : Bool) → is_some (cond b (Some (next_line text at)) None) ≡ b
+    go true = refl
+    go false = refl
 
 pub row_of : (text : List ℕ) (at width : ℕ) → at < length text → numbered width text at ≡ true → Row text at width
 unfolding numbered
@@ -54,40 +37,23 @@ row_part less h row =
     record { inside = row.inside; closed = row.closed; numbers = row.numbers; many = omega (arith, h, row.many) }
 
 -- how many numbers follow 'aag' and its space
-pub some_numbers : (text : List ℕ) (r : ℕ) → WidthIs text r → (r ≡ 0 → ⊥) → five_to_nine text ≡ true
+pub some_numbers : (text : List ℕ) (r : Option ℕ) → WidthIs text r → is_some r ≡ true → five_to_nine text ≡ true
 unfolding five_to_nine between
-some_numbers text r is some =
+some_numbers text None is some = absurd (cc)
+some_numbers text (Some r) is some =
     let line = line_at text 4 in
     let n = length (words line) in
-    let count = numbers_count r line (is.numbers some) in
-    let low : 5 ≤ n = omega (arith, count, is.least some) in
+    let count = numbers_count r line is.numbers in
+    let low : 5 ≤ n = omega (arith, count, is.least) in
     let high : n ≤ 9 = omega (arith, count, is.few) in
-    rw (is.closed some, le-leb 5 n low, le-leb n 9 high) (numbers_all r line (is.numbers some))
+    rw (is.closed, le-leb 5 n low, le-leb n 9 high) (numbers_all r line is.numbers)
 
-pub no_numbers : (text : List ℕ) (r : ℕ) → WidthIs text r → r ≡ 0 → five_to_nine text ≡ false
+pub no_numbers : (text : List ℕ) (r : Option ℕ) → WidthIs text r → is_some r ≡ false → five_to_nine text ≡ false
 unfolding five_to_nine
-no_numbers text r is none = is.none none
+no_numbers text None is none = is
+no_numbers text (Some r) is none = absurd (cc)
 
 -- a line that is ended ends before the text does
 pub closed_end : (text : List ℕ) (at end : ℕ) → LineTo text at end → ended text at ≡ true → end < length text
 unfolding ended
 closed_end text at end line h = omega (arith, line.is, ltb-true (at + length (line_at text at)) (length text) h)
-
--- the counts of a header
-pub counts_are : (s : Sizes) (i l o b c j f : ℕ) → i ≡ below_huge s.inputs → l ≡ below_huge s.latches → o ≡ below_huge s.outputs
-    → b ≡ below_huge s.bads → c ≡ below_huge s.constraints → j ≡ below_huge s.counts → f ≡ below_huge s.fairness
-    → ◌≡◌ {A = Counts} (record { i = i; l = l; o = o; b = b; c = c; j = j; f = f }) (counts_of s)
-unfolding counts_of
-counts_are s i l o b c j f ei el eo eb ec ej ef =
-    λ k. record { i = ei k; l = el k; o = eo k; b = eb k; c = ec k; j = ej k; f = ef k }
-
--- a fault put together
-pub fault_is : (text : List ℕ) (at : ℕ) (h h' : Header) (s : Sizes) (kind : Kind) (cause : Cause) (n next : ℕ) → h ≡ h'
-    → n ≡ line_number text at → next ≡ next_line text 0 → s ≡ sizes_of text h next → kind ≡ kind_of s n
-    → cause ≡ line_cause text at kind h s next
-    → ◌≡◌ {A = Fault} (record { kind = kind; cause = cause }) (line_fault text at h' (sizes_of text h' (next_line text 0)))
-fault_is text at h h' s kind cause n next eh en ex es ek ec =
-    let fs = es ∙ (λ k. sizes_of text (eh k) (ex k)) in
-    let fk = ek ∙ (λ k. kind_of (fs k) (en k)) in
-    let fc = ec ∙ (λ k. line_cause text at (fk k) (eh k) (fs k) (ex k)) in
-    λ k. record { kind = fk k; cause = fc k }

@@ -107,27 +107,6 @@ module _ (text : List ℕ) (u from to p : ℕ) (w : Walked text u from to p) (h 
 
 -- ---- laws of the places, and of the first line that defines a variable
 
-pub past_are : (text : List ℕ) (s : Sizes) (at s₁ s₂ s₃ s₄ s₅ s₆ : ℕ) → s₁ ≡ skip s.outputs text at → s₂ ≡ skip s.bads text s₁
-    → s₃ ≡ skip s.constraints text s₂ → s₄ ≡ skip s.counts text s₃ → s₅ ≡ skip s.justice text s₄ → s₆ ≡ skip s.fairness text s₅
-    → s₆ ≡ past_properties text s at
-unfolding past_properties
-past_are text s at s₁ s₂ s₃ s₄ s₅ s₆ e₁ e₂ e₃ e₄ e₅ e₆ =
-    let f₂ = e₂ ∙ ap (skip s.bads text) e₁ in
-    let f₃ = e₃ ∙ ap (skip s.constraints text) f₂ in
-    let f₄ = e₄ ∙ ap (skip s.counts text) f₃ in
-    let f₅ = e₅ ∙ ap (skip s.justice text) f₄ in
-    e₆ ∙ ap (skip s.fairness text) f₅
-
-pub places_are : (text : List ℕ) (s : Sizes) (next s₁ s₂ s₃ s₄ : ℕ) → s₁ ≡ skip s.inputs text next → s₂ ≡ skip s.latches text s₁
-    → s₃ ≡ past_properties text s s₂ → s₄ ≡ skip s.gates text s₃
-    → ◌≡◌ {A = Places} (record { inputs = next; outputs = s₂; gates = s₃; symbols = s₄ }) (places_of text s next)
-unfolding places_of gates_at outputs_at
-places_are text s next s₁ s₂ s₃ s₄ e₁ e₂ e₃ e₄ =
-    let f₂ = e₂ ∙ ap (skip s.latches text) e₁ in
-    let f₃ = e₃ ∙ ap (past_properties text s) f₂ in
-    let f₄ = e₄ ∙ ap (skip s.gates text) f₃ in
-    λ k. record { inputs = next; outputs = f₂ k; gates = f₃ k; symbols = f₄ k }
-
 module _ (text : List ℕ) (p : Places) (l at to found : ℕ) (ends : to ≡ min p.outputs at)
     (is : found ≡ definer (length text) text (var l) p.inputs to) where
   earlier_is : earlier_by text p (var l) at to found ≡ earlier text p l at

@@ -5,7 +5,7 @@ use Rattle.std.proofs.Common.{subst, ◌∙◌, lt-ltb, le-ltb}
 use Rattle.std.proofs.Math.Dec.{eqb}
 use Rattle.meaning.specs.CircuitText.{latch_form, start_right, numbers_at}
 use Rattle.lines.specs.declared.number.Number.{Number}
-use Rattle.lines.specs.Numbers.{Stands, worth}
+use Rattle.lines.specs.Numbers.{worth}
 use Rattle.sections.specs.Rows.{value_small, value_least}
 use Rattle.text_faults.specs.declared.definers.Places.{Places}
 use Rattle.text_faults.specs.declared.cause.Cause.{Cause}
@@ -31,15 +31,15 @@ latch_cause text at newer m p =
 
 -- ---- laws of the third number
 
-module _ (text : List ℕ) (at : ℕ) (x : Number) (stands : Stands text x) (is : worth text x ≡ get_or (numbers_at text at) 2 0) where
+module _ (text : List ℕ) (at : ℕ) (x : Number) (is : worth x ≡ get_or (numbers_at text at) 2 0) where
   pub starts_constant : x.value < 2 → true ≡ start_right (latch_form true) (numbers_at text at)
   unfolding start_right latch_form
   starts_constant less =
-      sym (rw (lt-ltb (get_or (numbers_at text at) 2 0) 2 (subst (λ (v : ℕ). v < 2) is (value_small text x stands less))))
+      sym (rw (lt-ltb (get_or (numbers_at text at) 2 0) 2 (subst (λ (v : ℕ). v < 2) is (value_small x less))))
 
-  pub starts_own : 2 ≤ x.value → (own : ℕ) → own ≡ get_or (numbers_at text at) 0 0 → (b : Bool) → b ≡ eqb (worth text x) own
+  pub starts_own : 2 ≤ x.value → (own : ℕ) → own ≡ get_or (numbers_at text at) 0 0 → (b : Bool) → b ≡ eqb (worth x) own
       → b ≡ start_right (latch_form true) (numbers_at text at)
   unfolding start_right latch_form
   starts_own more own own_is b said =
       said ∙ ap (λ (v : ℕ). eqb v own) is ∙ ap (eqb (get_or (numbers_at text at) 2 0)) own_is
-      ∙ sym (rw (le-ltb (get_or (numbers_at text at) 2 0) 2 (subst (λ (v : ℕ). 2 ≤ v) is (value_least text x stands more))))
+      ∙ sym (rw (le-ltb (get_or (numbers_at text at) 2 0) 2 (subst (λ (v : ℕ). 2 ≤ v) is (value_least x more))))

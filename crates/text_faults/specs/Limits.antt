@@ -1,6 +1,6 @@
 -- Which limit two texts are over, with the number that was met: the list of `over-limits`, by the counts of the header and the lines of the
 -- lemmas. The clauses, the last of the list, are not counted: they are told where no other limit is passed (`limit-so` says that it is so).
-use Rattle.std.specs.Prelude.{ℕ, zero, suc, ◌+◌, cond, List, length, ltb, eqb}
+use Rattle.std.specs.Prelude.{ℕ, zero, suc, ◌+◌, cond, List, length, ltb, eqb, Option, None, Some}
 use Rattle.meaning.specs.File.{file_most, n_most, m_most, lemmas_most}
 use Rattle.meaning.specs.Lines.{newline, space, line_at}
 use Rattle.meaning.specs.CircuitText.{Header, header_of}
@@ -8,7 +8,7 @@ use Rattle.meaning.specs.Circuits.{literals_most}
 use Rattle.lines.specs.Numbers.{capped}
 use Rattle.circuit_text.specs.Header.{header_test}
 use Rattle.text_faults.specs.declared.limits.Limit.{Limit}
-use Rattle.text_faults.specs.declared.limits.Limit.TheVariants.{LongCircuit, LongLemmas, NoLatch, Latches, Width, NoBad, Outputs, Bads, Both, Lemmas, LongLemma, Clauses, Nothing}
+use Rattle.text_faults.specs.declared.limits.Limit.TheVariants.{LongCircuit, LongLemmas, NoLatch, Latches, Width, NoBad, Outputs, Bads, Both, Lemmas, LongLemma, Clauses}
 use Rattle.text_faults.specs.Places.{count_of, line_number, after_line}
 
 -- the first line from a place on of more than 64 literals: a lemma has a space after each; where there is none, the clauses are what is left
@@ -43,8 +43,8 @@ unfoldable pub header_limit : Header → List ℕ → Limit
 header_limit h lemmas =
     cond (eqb (capped h.l) 0) NoLatch (cond (ltb n_most (capped h.l)) (Latches (capped h.l)) (width_limit h lemmas))
 
-unfoldable pub limit_of : List ℕ → List ℕ → Limit
+unfoldable pub limit_of : List ℕ → List ℕ → Option Limit
 limit_of text lemmas =
-    cond (ltb file_most (length text)) LongCircuit
-    (cond (ltb file_most (length lemmas)) LongLemmas
-    (cond (header_test text) (header_limit (header_of (line_at text 0)) lemmas) Nothing))
+    cond (ltb file_most (length text)) (Some LongCircuit)
+    (cond (ltb file_most (length lemmas)) (Some LongLemmas)
+    (cond (header_test text) (Some (header_limit (header_of (line_at text 0)) lemmas)) None))

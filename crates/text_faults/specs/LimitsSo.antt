@@ -1,6 +1,6 @@
 -- What 14 and 15 are told with is so: for each limit, what holds of the circuit and the lemmas that are read; how many justice and fairness
 -- properties there are.
-use Rattle.std.specs.Prelude.{ℕ, zero, suc, ◌+◌, ◌≤◌, ◌<◌, ◌≡◌, refl, ◌⊎◌, Bool, true, false, ◌&&◌, ◌||◌, cond, List, [], ◌∷◌, drop, ltb, leb, eqb}
+use Rattle.std.specs.Prelude.{ℕ, zero, suc, ◌+◌, ◌≤◌, ◌<◌, ◌≡◌, refl, ◌⊎◌, Bool, true, false, ◌&&◌, ◌||◌, cond, List, [], ◌∷◌, drop, ltb, leb, eqb, Option, None, Some}
 use Rattle.std.proofs.Common.{sym, subst, ◌∙◌, inl, inr, arith, length-drop, drop-drop}
 use Rattle.std.proofs.Math.Path.{ap}
 use Rattle.std.proofs.Math.Bool.{not, true≢false}
@@ -21,7 +21,7 @@ use Rattle.lines.specs.Numbers.{huge, capped}
 use Rattle.circuit_text.specs.Header.{header_test}
 use Rattle.circuit_laws.specs.ReadSane.{Counts, read_counts}
 use Rattle.text_faults.specs.declared.limits.Limit.{Limit}
-use Rattle.text_faults.specs.declared.limits.Limit.TheVariants.{LongCircuit, LongLemmas, NoLatch, Latches, Width, NoBad, Outputs, Bads, Both, Lemmas as ManyLemmas, LongLemma, Clauses, Nothing}
+use Rattle.text_faults.specs.declared.limits.Limit.TheVariants.{LongCircuit, LongLemmas, NoLatch, Latches, Width, NoBad, Outputs, Bads, Both, Lemmas as ManyLemmas, LongLemma, Clauses}
 use Rattle.text_faults.specs.Places.{count_of, line_number, after_line}
 use Rattle.text_faults.specs.Sizes.{capped_cases, capped_under}
 use Rattle.text_faults.specs.Limits.{long_lemma, lemmas_limit, bads_limit, property_limit, width_limit, header_limit, limit_of}
@@ -35,22 +35,26 @@ LongAt lemma_text ls line met =
     × (met ≡ length (lemma_of (words (line_at lemma_text at)))) × (literals_most < met)
 
 -- what each limit says (numbers that no word holds are told as one that it does)
-abbrev pub LimitSo : List ℕ → List ℕ → Circuit → List Clause → Limit → Type 0
-LimitSo text lemma_text c ls LongCircuit = file_most < length text
-LimitSo text lemma_text c ls LongLemmas = file_most < length lemma_text
-LimitSo text lemma_text c ls NoLatch = length c.latches ≡ 0
-LimitSo text lemma_text c ls (Latches met) = (met ≡ capped (length c.latches)) × (n_most < length c.latches)
-LimitSo text lemma_text c ls (Width inputs gates) =
+abbrev pub LimitOver : List ℕ → List ℕ → Circuit → List Clause → Limit → Type 0
+LimitOver text lemma_text c ls LongCircuit = file_most < length text
+LimitOver text lemma_text c ls LongLemmas = file_most < length lemma_text
+LimitOver text lemma_text c ls NoLatch = length c.latches ≡ 0
+LimitOver text lemma_text c ls (Latches met) = (met ≡ capped (length c.latches)) × (n_most < length c.latches)
+LimitOver text lemma_text c ls (Width inputs gates) =
     (inputs ≡ capped (length c.inputs)) × (gates ≡ capped (length c.gates)) × (m_most < length c.inputs + length c.gates)
-LimitSo text lemma_text c ls NoBad = (length c.outputs ≡ 0) × (length c.bads ≡ 0)
-LimitSo text lemma_text c ls (Outputs met) = (met ≡ capped (length c.outputs)) × (1 < length c.outputs) × (length c.bads ≡ 0)
-LimitSo text lemma_text c ls (Bads met) = (met ≡ capped (length c.bads)) × (1 < length c.bads) × (length c.outputs ≡ 0)
-LimitSo text lemma_text c ls (Both outputs bads) =
+LimitOver text lemma_text c ls NoBad = (length c.outputs ≡ 0) × (length c.bads ≡ 0)
+LimitOver text lemma_text c ls (Outputs met) = (met ≡ capped (length c.outputs)) × (1 < length c.outputs) × (length c.bads ≡ 0)
+LimitOver text lemma_text c ls (Bads met) = (met ≡ capped (length c.bads)) × (1 < length c.bads) × (length c.outputs ≡ 0)
+LimitOver text lemma_text c ls (Both outputs bads) =
     (outputs ≡ capped (length c.outputs)) × (bads ≡ capped (length c.bads)) × (0 < length c.outputs) × (0 < length c.bads)
-LimitSo text lemma_text c ls (ManyLemmas met) = (met ≡ length ls) × (lemmas_most < length ls)
-LimitSo text lemma_text c ls (LongLemma line met) = LongAt lemma_text ls line met
-LimitSo text lemma_text c ls Clauses = clauses_most < clause_count (built c ls)
-LimitSo text lemma_text c ls Nothing = ⊥
+LimitOver text lemma_text c ls (ManyLemmas met) = (met ≡ length ls) × (lemmas_most < length ls)
+LimitOver text lemma_text c ls (LongLemma line met) = LongAt lemma_text ls line met
+LimitOver text lemma_text c ls Clauses = clauses_most < clause_count (built c ls)
+
+-- the limit that is told; there always is one
+abbrev pub LimitSo : List ℕ → List ℕ → Circuit → List Clause → Option Limit → Type 0
+LimitSo text lemma_text c ls None = ⊥
+LimitSo text lemma_text c ls (Some limit) = LimitOver text lemma_text c ls limit
 
 -- ---- counts as they are told
 
@@ -137,7 +141,6 @@ WalkSo text cs (Outputs met) = ⊥
 WalkSo text cs (Bads met) = ⊥
 WalkSo text cs (Both outputs bads) = ⊥
 WalkSo text cs (ManyLemmas met) = ⊥
-WalkSo text cs Nothing = ⊥
 
 walk_nothing : (text : List ℕ) (cs : List Clause) → right [] ≡ right cs → WalkSo text cs Clauses
 unfolding any
@@ -157,7 +160,6 @@ walk_more text d cs (Outputs _) few none = elim none [ ]
 walk_more text d cs (Bads _) few none = elim none [ ]
 walk_more text d cs (Both _ _) few none = elim none [ ]
 walk_more text d cs (ManyLemmas _) few none = elim none [ ]
-walk_more text d cs Nothing few none = elim none [ ]
 walk_more text d cs (LongLemma line met) few (at, here, is_in, is, long) = (at, here, inr is_in, is, long)
 walk_more text d cs Clauses few none = rw (le-ltb literals_most (length d) few) none
 
@@ -282,7 +284,7 @@ the_last a b c d e f g i j ea eb ec ed ee ef eg ei is =
 module _ (text lemma_text : List ℕ) (c : Circuit) (ls : List Clause) (read : read_circuit_text text ≡ CircuitText.right c)
     (lemmas_read : read_lemma_text (length c.latches) lemma_text ≡ right ls) (over : over_limits text lemma_text c ls ≡ true) where
   abbrev Told : Limit → Type 0
-  Told = LimitSo text lemma_text c ls
+  Told = LimitOver text lemma_text c ls
 
   by_test : (b : Bool) (x y : Limit) → (b ≡ true → Told x) → (b ≡ false → Told y) → Told (cond b x y)
   by_test true x y holds fails = holds refl
@@ -329,7 +331,6 @@ module _ (text lemma_text : List ℕ) (c : Circuit) (ls : List Clause) (read : r
   walk_told (Bads _) found few count = elim found [ ]
   walk_told (Both _ _) found few count = elim found [ ]
   walk_told (ManyLemmas _) found few count = elim found [ ]
-  walk_told Nothing found few count = elim found [ ]
   walk_told (LongLemma line met) found few count = found
   walk_told Clauses short few count = clauses_so few count short
 
@@ -428,12 +429,17 @@ module _ (text lemma_text : List ℕ) (c : Circuit) (ls : List Clause) (read : r
       width_so long long_lemmas (ne_eqb (length c.latches) 0 (λ z. some (omega (arith, z, counts.latches, capped_most l))))
       (le-ltb n_most (length c.latches) latches_few)))
 
+  by_answer : (b : Bool) (x y : Option Limit) → (b ≡ true → LimitSo text lemma_text c ls x) → (b ≡ false → LimitSo text lemma_text c ls y)
+      → LimitSo text lemma_text c ls (cond b x y)
+  by_answer true x y h g = h refl
+  by_answer false x y h g = g refl
+
   -- What 14 is told with: the limit is passed, and the numbers are those of the circuit and the lemmas.
   pub limit_so : LimitSo text lemma_text c ls (limit_of text lemma_text)
   unfolding limit_of
   limit_so =
-      by_test (ltb file_most (length text)) _ _ (λ e. ltb-true file_most (length text) e)
+      by_answer (ltb file_most (length text)) _ _ (λ e. ltb-true file_most (length text) e)
       (λ long.
-      by_test (ltb file_most (length lemma_text)) _ _ (λ e. ltb-true file_most (length lemma_text) e)
+      by_answer (ltb file_most (length lemma_text)) _ _ (λ e. ltb-true file_most (length lemma_text) e)
       (λ long_lemmas.
-      by_test (header_test text) _ _ (λ e. header_so long long_lemmas) (λ e. true≢false (sym (header_true text c read) ∙ e))))
+      by_answer (header_test text) _ _ (λ e. header_so long long_lemmas) (λ e. true≢false (sym (header_true text c read) ∙ e))))

@@ -1,8 +1,7 @@
 -- Places of lines in a text, and the laws by which they are found.
-use Rattle.std.specs.Prelude.{ℕ, zero, suc, ◌+◌, ◌≤◌, ◌<◌, ◌≡◌, refl, Bool, cond, List, [], ◌∷◌, length, take, drop, get_or, eqb}
-use Rattle.std.proofs.Common.{sym, ap, ◌∙◌, arith, add-one, drop-cons}
-use Rattle.std.proofs.Math.Seq.{drop-length}
-use borrow.Author.Tests.{eq-eqb, ne_eqb}
+use Rattle.std.specs.Prelude.{ℕ, zero, suc, ◌+◌, ◌≤◌, ◌<◌, ◌≡◌, refl, Bool, true, false, cond, List, [], ◌∷◌, length, take, drop, eqb, count_by}
+use Rattle.std.proofs.Common.{sym, ap, ◌∙◌, arith}
+use Rattle.std.proofs.lemmas.List.Sums.{sum_by-cons}
 use Rattle.meaning.specs.Lines.{newline, ended, next_line, decimal}
 use Rattle.lines.specs.Numbers.{digits_of}
 use Rattle.lines.specs.Past.{not_ended}
@@ -33,22 +32,16 @@ first_number text at = decimal (digits_of (drop at text))
 
 -- ---- laws
 
--- a byte more is counted
-module _ (b : ℕ) (bytes : List ℕ) (i : ℕ) (h : i < length bytes) where
-  next : drop i bytes ≡ get_or bytes i 0 ∷ drop (i + 1) bytes
-  next = drop-cons bytes i 0 h ∙ ap (λ (n : ℕ). get_or bytes i 0 ∷ drop n bytes) (sym (add-one i))
-
-  pub is_counted : get_or bytes i 0 ≡ b → count_of b (drop i bytes) ≡ suc (count_of b (drop (i + 1) bytes))
-  unfolding count_of
-  is_counted e = rw (next, eq-eqb (get_or bytes i 0) b e)
-
-  pub not_counted : (get_or bytes i 0 ≡ b → ⊥) → count_of b (drop i bytes) ≡ count_of b (drop (i + 1) bytes)
-  unfolding count_of
-  not_counted e = rw (next, ne_eqb (get_or bytes i 0) b e)
-
-pub none_left : (b : ℕ) (bytes : List ℕ) (i : ℕ) → i ≡ length bytes → count_of b (drop i bytes) ≡ 0
+-- the library's count is the same
+pub counted_is : (b : ℕ) (bytes : List ℕ) → count_by (λ (a : ℕ). eqb a b) bytes ≡ count_of b bytes
 unfolding count_of
-none_left b bytes i e = ap (λ (n : ℕ). count_of b (drop n bytes)) e ∙ ap (count_of b) (drop-length bytes)
+counted_is b [] = refl
+counted_is b (a ∷ as') = sum_by-cons (λ (x : ℕ). cond (eqb x b) 1 0) a as' ∙ one (eqb a b) (counted_is b as')
+  where
+    one : (t : Bool) → count_by (λ (x : ℕ). eqb x b) as' ≡ count_of b as'
+        → cond t 1 0 + count_by (λ (x : ℕ). eqb x b) as' ≡ cond t (suc (count_of b as')) (count_of b as')
+    one true e = omega (arith, e)
+    one false e = omega (arith, e)
 
 -- the line after one that ends at a place
 module _ (text : List ℕ) (at end : ℕ) (line : LineTo text at end) where

@@ -7,7 +7,7 @@ use Rattle.meaning.specs.Lines.{decimal, decimal_on}
 use Rattle.meaning.specs.CircuitText.{Header}
 use Rattle.laws.specs.Basics.{bool_cases}
 use Rattle.lines.specs.declared.number.Number.{Number}
-use Rattle.lines.specs.Numbers.{huge, capped, digits_of, span, worth, Stands}
+use Rattle.lines.specs.Numbers.{huge, capped, digits_of}
 use Rattle.lines.specs.Past.{not_ended}
 use Rattle.text_faults.specs.declared.sizes.Sizes.{Sizes}
 use Rattle.text_faults.specs.Places.{after_line, skip, first_number}
@@ -91,10 +91,6 @@ sum_end (suc count) text at e =
     let rest : first_sum count text (after_line text at) ≡ 0 = sum_end count text (after_line text at) on in
     omega (arith, none, rest)
 
--- no line yet
-pub sum_start : (whole : ℕ) → capped (0 + whole) ≡ capped whole
-sum_start whole = ap capped (omega arith)
-
 -- no line more
 pub sum_done : (sum rest whole : ℕ) → rest ≡ 0 → sum ≤ huge → capped (sum + rest) ≡ whole → sum ≡ whole
 sum_done sum rest whole none most is = go (capped_cases (sum + rest)) ∙ is
@@ -104,10 +100,10 @@ sum_done sum rest whole none most is = go (capped_cases (sum + rest)) ∙ is
     go (inr (less, at)) = omega (arith, none, at)
 
 -- the number that a line starts with, where it stands
-pub first_is : (text : List ℕ) (x : Number) (at : ℕ) → Stands text x → span text x ≡ digits_of (drop at text)
+pub first_is : (text : List ℕ) (x : Number) (at : ℕ) → x.digits.now ≡ digits_of (drop at text)
     → x.value ≡ capped (first_number text at)
-unfolding first_number worth
-first_is text x at stands is = stands.value ∙ ap (λ (w : List ℕ). capped (decimal w)) is
+unfolding first_number
+first_is text x at is = x.valued ∙ ap (λ (w : List ℕ). capped (decimal w)) is
 
 -- one line more
 pub sum_on : (count : ℕ) (text : List ℕ) (at sum v next r whole : ℕ) → capped (sum + first_sum (suc count) text at) ≡ whole
@@ -117,38 +113,3 @@ sum_on count text at sum v next r whole is ev en er =
     (λ k. capped ((er ∙ ap (λ (n : ℕ). capped (sum + n)) ev) k + first_sum count text (en k)))
     ∙ capped_part sum (first_number text at) (first_sum count text (after_line text at))
     ∙ is
-
--- ---- sizes put together
-
-pub counts_at_is : (text : List ℕ) (h : Header) (next vi vl vo vb vc s₁ s₂ s₃ s₄ s₅ : ℕ) → vi ≡ capped h.i → vl ≡ capped h.l
-    → vo ≡ capped h.o → vb ≡ capped h.b → vc ≡ capped h.c → s₁ ≡ skip vi text next → s₂ ≡ skip vl text s₁ → s₃ ≡ skip vo text s₂
-    → s₄ ≡ skip vb text s₃ → s₅ ≡ skip vc text s₄ → s₅ ≡ counts_at text h next
-unfolding counts_at
-counts_at_is text h next vi vl vo vb vc s₁ s₂ s₃ s₄ s₅ ei el eo eb ec e₁ e₂ e₃ e₄ e₅ =
-    let f₁ = e₁ ∙ ap (λ (n : ℕ). skip n text next) ei in
-    let f₂ = e₂ ∙ (λ k. skip (el k) text (f₁ k)) in
-    let f₃ = e₃ ∙ (λ k. skip (eo k) text (f₂ k)) in
-    let f₄ = e₄ ∙ (λ k. skip (eb k) text (f₃ k)) in
-    e₅ ∙ (λ k. skip (ec k) text (f₄ k))
-
-pub sizes_are : (text : List ℕ) (h : Header) (next i l o b c j f a at u : ℕ) → i ≡ capped h.i → l ≡ capped h.l → o ≡ capped h.o
-    → b ≡ capped h.b → c ≡ capped h.c → j ≡ capped h.j → f ≡ capped h.f → a ≡ capped h.a → at ≡ counts_at text h next
-    → u ≡ capped (first_sum j text at)
-    → ◌≡◌ {A = Sizes}
-    (record { inputs = i; latches = l; outputs = o; bads = b; constraints = c; counts = j; justice = u; fairness = f; gates = a })
-    (sizes_of text h next)
-unfolding sizes_of
-sizes_are text h next i l o b c j f a at u ei el eo eb ec ej ef ea es eu =
-    let fu = eu ∙ (λ k. capped (first_sum (ej k) text (es k))) in
-    λ k.
-    record {
-      inputs = ei k;
-      latches = el k;
-      outputs = eo k;
-      bads = eb k;
-      constraints = ec k;
-      counts = ej k;
-      justice = fu k;
-      fairness = ef k;
-      gates = ea k;
-    }

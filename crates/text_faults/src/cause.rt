@@ -1,6 +1,6 @@
 // Why a line of a circuit text is refused.
 ghost use Rattle.std.specs.Prelude.{◌≡◌, ◌<◌, ◌≤◌, length};
-ghost use Rattle.lines.specs.Numbers.{Stands, worth};
+ghost use Rattle.lines.specs.Numbers.{worth};
 ghost use Rattle.text_faults.specs.Definers.{Inside};
 ghost use Rattle.text_faults.specs.Causes.{numbered, header_cause, Row, out, unknown_at, later_cause, uses_cause};
 ghost use Rattle.text_faults.specs.Causes.{twice_cause, after_ranges, range_cause, defined_cause, literals_cause};
@@ -38,15 +38,17 @@ pub enum Cause {
 }
 
 // Whether a line is of so many numbers, and ended.
+#[tactic(auto, using(crate::specs::CauseLaws::numbered_is))]
 pub fn numbered(text: &[u8], at: usize, width: usize) -> bool
     requires at_in_bounds { at ≤ length text.now }
     requires le_width { 1 ≤ width }
     ensures { result ≡ numbered width text.now at }
 {
-    line_past(text, at, width) != 0
+    line_past(text, at, width).is_some()
 }
 
 // A header that is not right: another text altogether, not ended, or not as it should be.
+#[tactic(auto, using(symbols::specs::Walk::is_closed, symbols::specs::Walk::is_open, circuit_text::specs::Header::four_in, crate::specs::CauseLaws::some_numbers, crate::specs::CauseLaws::no_numbers), unfolding(crate::specs::Causes::header_cause))]
 pub fn header_cause(text: &[u8]) -> Cause
     ensures { result ≡ header_cause text.now }
 {
@@ -56,166 +58,170 @@ pub fn header_cause(text: &[u8]) -> Cause
     if text.len() <= line_end(text, 0) {
         return Cause::Open;
     }
-    if width_of(text) == 0 {
+    if width_of(text).is_none() {
         return Cause::HeaderNumbers;
     }
     Cause::HeaderSum
 }
 
-// Whether number j of a line, counted from 0, is over 2M+1.
-fn out(text: &[u8], at: usize, width: usize, j: usize, m: Number) -> bool
-    requires row { Row text.now at width }
-    requires stands { Stands text.now m }
-    ensures { result ≡ out text.now at width j (worth text.now m) }
-{
-    if width <= j {
-        return false;
-    }
-    !used_right(text, m, nth(text, at, j))
+// A line of so many numbers at least, whether its first defines a variable, and what it is judged by: the header's M, and where the lines that
+// define variables are.
+#[derive(Clone, Copy)]
+struct Line<'a> {
+    text: &'a [u8],
+    at: usize,
+    width: usize,
+    defines: bool,
+    m: &'a Number<'a>,
+    p: Places,
+    ghost row: { Row text.now at width },
+    ghost inside: { Inside text.now p },
+    ghost width_nonzero: { 0 < width },
 }
 
-// Whether no line defines the variable of number j.
-fn unknown_at(text: &[u8], at: usize, width: usize, j: usize, p: Places) -> bool
-    requires row { Row text.now at width }
-    requires inside { Inside text.now p }
-    ensures { result ≡ unknown_at text.now at width j p }
-{
-    if width <= j {
-        return false;
+impl Line<'_> {
+    // Whether number j, counted from 0, is over 2M+1.
+    #[tactic(auto, unfolding(crate::specs::Causes::out))]
+    fn out(&self, j: usize) -> bool
+        ensures { result ≡ out self.now.text.now self.now.at self.now.width j (worth self.now.m.now) }
+    {
+        j < self.width && !used_right(self.m, &nth(self.text, self.at, j))
     }
-    !known_here(text, p, nth(text, at, j))
-}
 
-// The numbers after the first.
-fn later_cause(text: &[u8], at: usize, width: usize, p: Places) -> Cause
-    requires row { Row text.now at width }
-    requires inside { Inside text.now p }
-    ensures { result ≡ later_cause text.now at width p }
-{
-    if unknown_at(text, at, width, 1, p) {
-        return Cause::Undefined(2);
+    // Whether no line defines the variable of number j.
+    // One with `out` is no plainer: the question would be a closure, which needs a contract of its own, longer than this line of code.
+    #[tactic(auto, unfolding(crate::specs::Causes::unknown_at))]
+    fn unknown_at(&self, j: usize) -> bool
+        ensures { result ≡ unknown_at self.now.text.now self.now.at self.now.width j self.now.p }
+    {
+        j < self.width && !known_here(self.text, self.p, &nth(self.text, self.at, j))
     }
-    if unknown_at(text, at, width, 2, p) {
-        return Cause::Undefined(3);
-    }
-    Cause::Stuck
-}
 
-// What a line uses: the first number too, where it defines nothing.
-fn uses_cause(text: &[u8], at: usize, width: usize, defines: bool, p: Places) -> Cause
-    requires row { Row text.now at width }
-    requires inside { Inside text.now p }
-    ensures { result ≡ uses_cause text.now at width defines p }
-{
-    if defines {
-        return later_cause(text, at, width, p);
+    // The numbers after the first.
+    #[tactic(auto, unfolding(crate::specs::Causes::later_cause))]
+    fn later_cause(&self) -> Cause
+        ensures { result ≡ later_cause self.now.text.now self.now.at self.now.width self.now.p }
+    {
+        if self.unknown_at(1) {
+            return Cause::Undefined(2);
+        }
+        if self.unknown_at(2) {
+            return Cause::Undefined(3);
+        }
+        Cause::Stuck
     }
-    if unknown_at(text, at, width, 0, p) {
-        return Cause::Undefined(1);
-    }
-    later_cause(text, at, width, p)
-}
 
-// A variable that an earlier line defines.
-fn twice_cause(text: &[u8], at: usize, width: usize, defines: bool, p: Places) -> Cause
-    requires row { Row text.now at width }
-    requires inside { Inside text.now p }
-    requires width_nonzero { 0 < width }
-    ensures { result ≡ twice_cause text.now at width defines p }
-{
-    let found = earlier(text, p, nth(text, at, 0), at);
-    if found < at {
-        return Cause::Twice(found);
+    // What a line uses: the first number too, where it defines nothing.
+    #[tactic(auto, unfolding(crate::specs::Causes::uses_cause))]
+    fn uses_cause(&self) -> Cause
+        ensures { result ≡ uses_cause self.now.text.now self.now.at self.now.width self.now.defines self.now.p }
+    {
+        if !self.defines && self.unknown_at(0) {
+            return Cause::Undefined(1);
+        }
+        self.later_cause()
     }
-    uses_cause(text, at, width, defines, p)
-}
 
-// A line whose numbers are in range.
-fn after_ranges(text: &[u8], at: usize, width: usize, defines: bool, p: Places) -> Cause
-    requires row { Row text.now at width }
-    requires inside { Inside text.now p }
-    requires width_nonzero { 0 < width }
-    ensures { result ≡ after_ranges text.now at width defines p }
-{
-    if defines {
-        return twice_cause(text, at, width, defines, p);
+    // A variable that an earlier line defines.
+    #[tactic(auto, unfolding(crate::specs::Causes::twice_cause))]
+    fn twice_cause(&self) -> Cause
+        ensures { result ≡ twice_cause self.now.text.now self.now.at self.now.width self.now.defines self.now.p }
+    {
+        let found = earlier(self.text, self.p, &nth(self.text, self.at, 0), self.at);
+        if found < self.at {
+            return Cause::Twice(found);
+        }
+        self.uses_cause()
     }
-    uses_cause(text, at, width, defines, p)
-}
 
-// Its ranges.
-fn range_cause(text: &[u8], at: usize, width: usize, defines: bool, m: Number, p: Places) -> Cause
-    requires row { Row text.now at width }
-    requires inside { Inside text.now p }
-    requires width_nonzero { 0 < width }
-    requires stands { Stands text.now m }
-    ensures { result ≡ range_cause text.now at width defines (worth text.now m) p }
-{
-    if out(text, at, width, 0, m) {
-        return Cause::Range(1);
+    // A line whose numbers are in range.
+    #[tactic(auto, unfolding(crate::specs::Causes::after_ranges))]
+    fn after_ranges(&self) -> Cause
+        ensures { result ≡ after_ranges self.now.text.now self.now.at self.now.width self.now.defines self.now.p }
+    {
+        if self.defines {
+            return self.twice_cause();
+        }
+        self.uses_cause()
     }
-    if out(text, at, width, 1, m) {
-        return Cause::Range(2);
-    }
-    if out(text, at, width, 2, m) {
-        return Cause::Range(3);
-    }
-    after_ranges(text, at, width, defines, p)
-}
 
-// A line that defines a variable.
-fn defined_cause(text: &[u8], at: usize, width: usize, defines: bool, m: Number, p: Places) -> Cause
-    requires row { Row text.now at width }
-    requires inside { Inside text.now p }
-    requires width_nonzero { 0 < width }
-    requires stands { Stands text.now m }
-    ensures { result ≡ defined_cause text.now at width defines (worth text.now m) p }
-{
-    let l = nth(text, at, 0);
-    if !is_even(text, l) {
-        return Cause::Odd;
+    // Its ranges.
+    #[tactic(auto, unfolding(crate::specs::Causes::range_cause))]
+    fn range_cause(&self) -> Cause
+        ensures { result ≡ range_cause self.now.text.now self.now.at self.now.width self.now.defines (worth self.now.m.now) self.now.p }
+    {
+        if self.out(0) {
+            return Cause::Range(1);
+        }
+        if self.out(1) {
+            return Cause::Range(2);
+        }
+        if self.out(2) {
+            return Cause::Range(3);
+        }
+        self.after_ranges()
     }
-    if l.value < 2 {
-        return Cause::Small;
+
+    // A line that defines a variable.
+    #[tactic(auto, using(sections::specs::Rows::value_small, sections::specs::Rows::value_least), unfolding(crate::specs::Causes::defined_cause))]
+    fn defined_cause(&self) -> Cause
+        ensures { result ≡ defined_cause self.now.text.now self.now.at self.now.width self.now.defines (worth self.now.m.now) self.now.p }
+    {
+        let l = nth(self.text, self.at, 0);
+        if !is_even(&l) {
+            return Cause::Odd;
+        }
+        if l.value < 2 {
+            return Cause::Small;
+        }
+        self.range_cause()
     }
-    range_cause(text, at, width, defines, m, p)
 }
 
 // A line of so many numbers.
+// It is public and takes no `Line`: no type may stand in place of what it asks. The same holds of `form_cause`.
+#[tactic(auto, unfolding(crate::specs::Causes::literals_cause))]
 pub fn literals_cause(
     text: &[u8],
     at: usize,
     width: usize,
     defines: bool,
-    m: Number,
+    m: &Number,
     p: Places,
 ) -> Cause
     requires row { Row text.now at width }
     requires inside { Inside text.now p }
     requires width_nonzero { 0 < width }
-    requires stands { Stands text.now m }
-    ensures { result ≡ literals_cause text.now at width defines (worth text.now m) p }
+    ensures { result ≡ literals_cause text.now at width defines (worth m.now) p }
 {
+    let line = Line {
+        text,
+        at,
+        width,
+        defines,
+        m,
+        p,
+    };
     if defines {
-        return defined_cause(text, at, width, defines, m, p);
+        return line.defined_cause();
     }
-    range_cause(text, at, width, defines, m, p)
+    line.range_cause()
 }
 
 // A line of so many numbers, and no others.
+#[tactic(auto, using(crate::specs::CauseLaws::row_of), unfolding(crate::specs::Causes::form_cause))]
 pub fn form_cause(
     text: &[u8],
     at: usize,
     width: usize,
     defines: bool,
-    m: Number,
+    m: &Number,
     p: Places,
 ) -> Cause
     requires at_in_bounds { at < length text.now }
     requires inside { Inside text.now p }
     requires le_width { 1 ≤ width }
-    requires stands { Stands text.now m }
-    ensures { result ≡ form_cause text.now at width defines (worth text.now m) p }
+    ensures { result ≡ form_cause text.now at width defines (worth m.now) p }
 {
     if !numbered(text, at, width) {
         return Cause::Numbers(width);
@@ -224,6 +230,7 @@ pub fn form_cause(
 }
 
 // A line with a count, which may be any number.
+#[tactic(auto, unfolding(crate::specs::Causes::count_cause))]
 pub fn count_cause(text: &[u8], at: usize) -> Cause
     requires { at ≤ length text.now }
     ensures { result ≡ count_cause text.now at }

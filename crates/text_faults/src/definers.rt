@@ -1,7 +1,7 @@
 // The lines that define a variable, as far as lines start with a number.
-ghost use Rattle.std.specs.Prelude.{◌≡◌, ◌<◌, ◌≤◌, min, length};
+ghost use Rattle.std.specs.Prelude.{◌≡◌, ◌<◌, ◌≤◌, length};
 ghost use Rattle.meaning.specs.Circuit.{var};
-ghost use Rattle.lines.specs.Numbers.{Stands, worth};
+ghost use Rattle.lines.specs.Numbers.{worth};
 ghost use Rattle.text_faults.specs.Definers.{definer, Inside, past_properties, places_of, known_here, earlier};
 
 use crate::places::{after_line, skip};
@@ -19,6 +19,7 @@ pub struct Places {
 }
 
 // Past outputs, bad literals, constraints, counts, justice and fairness literals.
+#[tactic(auto, unfolding(crate::specs::Definers::past_properties))]
 fn past_properties(text: &[u8], s: Sizes, at: usize) -> usize
     requires { at ≤ length text.now }
     ensures { (result ≡ past_properties text.now s at) × (result ≤ length text.now) }
@@ -36,6 +37,7 @@ fn past_properties(text: &[u8], s: Sizes, at: usize) -> usize
 }
 
 // By how many there are of each kind, from the first input on.
+#[tactic(auto, unfolding(crate::specs::Definers::places_of, crate::specs::Definers::gates_at, crate::specs::Definers::outputs_at))]
 pub fn places_of(text: &[u8], s: Sizes, next: usize) -> Places
     requires { next ≤ length text.now }
     ensures { (result ≡ places_of text.now s next) × Inside text.now result }
@@ -52,15 +54,16 @@ pub fn places_of(text: &[u8], s: Sizes, next: usize) -> Places
 }
 
 // The first line from a place on, and before another, whose first number has this literal's variable; that other, where none has.
-pub fn definer(text: &[u8], x: Number, from: usize, to: usize) -> usize
-    requires stands { Stands text.now x }
-    requires to_in_bounds { to ≤ length text.now }
-    ensures { result ≡ definer (length text.now) text.now (var (worth text.now x)) from to }
+// No Option: `definer` and `earlier` are public and promise a place, and `told_so` in specs/So.antt tells by it whether a line was found.
+pub fn definer(text: &[u8], x: &Number, from: usize, to: usize) -> usize
+    requires { to ≤ length text.now }
+    ensures { result ≡ definer (length text.now) text.now (var (worth x.now)) from to }
 {
     let mut p = from;
+    // No `for`: the place goes from line to line, and nothing is counted by hand.
     while p < to {
         let y = number_at(text, p);
-        if same_variable(text, x, y) {
+        if same_variable(x, &y) {
             return p;
         }
         p = after_line(text, p);
@@ -69,10 +72,10 @@ pub fn definer(text: &[u8], x: Number, from: usize, to: usize) -> usize
 }
 
 // Whether a literal is a constant, or an input, a latch or a gate has its variable.
-pub fn known_here(text: &[u8], p: Places, x: Number) -> bool
-    requires inside { Inside text.now p }
-    requires stands { Stands text.now x }
-    ensures { result ≡ known_here text.now p (worth text.now x) }
+#[tactic(auto, using(sections::specs::Rows::value_small, sections::specs::Rows::value_least), unfolding(crate::specs::Definers::known_here))]
+pub fn known_here(text: &[u8], p: Places, x: &Number) -> bool
+    requires { Inside text.now p }
+    ensures { result ≡ known_here text.now p (worth x.now) }
 {
     if x.value < 2 {
         return true;
@@ -83,23 +86,14 @@ pub fn known_here(text: &[u8], p: Places, x: Number) -> bool
     definer(text, x, p.gates, p.symbols) < p.symbols
 }
 
-fn smaller(a: usize, b: usize) -> usize
-    ensures { (result ≡ min a b) × (result ≤ a) × (result ≤ b) }
-{
-    if a < b {
-        return a;
-    }
-    b
-}
-
 // The first line before a place that defines this literal's variable; the place, where none does.
-pub fn earlier(text: &[u8], p: Places, x: Number, at: usize) -> usize
+#[tactic(auto, using(crate::specs::Definers::earlier_first, crate::specs::Definers::earlier_second))]
+pub fn earlier(text: &[u8], p: Places, x: &Number, at: usize) -> usize
     requires inside { Inside text.now p }
-    requires stands { Stands text.now x }
     requires at_in_bounds { at ≤ length text.now }
-    ensures { result ≡ earlier text.now p (worth text.now x) at }
+    ensures { result ≡ earlier text.now p (worth x.now) at }
 {
-    let to = smaller(p.outputs, at);
+    let to = p.outputs.min(at);
     let found = definer(text, x, p.inputs, to);
     if found < to {
         return found;

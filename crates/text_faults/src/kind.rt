@@ -21,6 +21,7 @@ pub enum Kind {
 }
 
 // From the counts of the justice properties on, so many lines after the first of them.
+#[tactic(auto, unfolding(crate::specs::Kinds::last_kind))]
 fn last_kind(s: Sizes, number: usize) -> Kind
     ensures { result ≡ last_kind s number }
 {
@@ -44,6 +45,7 @@ fn last_kind(s: Sizes, number: usize) -> Kind
 }
 
 // From the outputs on.
+#[tactic(auto, unfolding(crate::specs::Kinds::property_kind))]
 fn property_kind(s: Sizes, number: usize) -> Kind
     ensures { result ≡ property_kind s number }
 {
@@ -63,6 +65,7 @@ fn property_kind(s: Sizes, number: usize) -> Kind
 }
 
 // The kind of a line, counted from 1.
+#[tactic(auto, unfolding(crate::specs::Kinds::kind_of))]
 pub fn kind_of(s: Sizes, number: usize) -> Kind
     ensures { result ≡ kind_of s number }
 {

@@ -1,7 +1,7 @@
 // Which limit two texts are over, with the number that was met.
 ghost use Rattle.std.specs.Prelude.{◌≡◌, ◌<◌, ◌≤◌, length};
 ghost use Rattle.meaning.specs.Lines.{line_at};
-ghost use Rattle.circuit_text.specs.Header.{Parts, header_at};
+ghost use Rattle.circuit_text.specs.Header.{header_at};
 ghost use Rattle.text_faults.specs.Places.{count_of};
 ghost use Rattle.text_faults.specs.Limits.{long_lemma, lemmas_limit, bads_limit, property_limit, width_limit, header_limit, limit_of};
 
@@ -24,16 +24,16 @@ pub enum Limit {
     Lemmas(usize), // more than 128
     LongLemma(usize, usize), // the lemma of this line has so many literals: more than 64
     Clauses, // none of these: more than 4,096 clauses
-    Nothing, // no header
 }
 
 // How many spaces a line has: as many as literals, where it is a lemma.
+#[tactic(auto, using(crate::specs::LimitLaws::line_part))]
 fn spaces(text: &[u8], at: usize) -> usize
     requires { at ≤ length text.now }
     ensures { result ≡ count_of 32 (line_at text.now at) }
 {
     let end = line_end(text, at);
-    count_byte(&text[at..end], 32)
+    count_byte(&text[at..end], b' ')
 }
 
 // The first lemma of more than 64 literals; where there is none, the clauses are what is left.
@@ -41,6 +41,7 @@ fn long_lemma(text: &[u8]) -> Limit
     ensures { result ≡ long_lemma (length text.now) text.now 0 }
 {
     let mut p: usize = 0;
+    // No `for`: the place goes from line to line, and nothing is counted by hand.
     while p < text.len() {
         let met = spaces(text, p);
         if 64 < met {
@@ -52,10 +53,11 @@ fn long_lemma(text: &[u8]) -> Limit
 }
 
 // How many lemmas there are, and their lengths.
+#[tactic(auto, unfolding(crate::specs::Limits::lemmas_limit))]
 fn lemmas_limit(lemmas: &[u8]) -> Limit
     ensures { result ≡ lemmas_limit lemmas.now }
 {
-    let met = count_byte(lemmas, 10);
+    let met = count_byte(lemmas, b'\n');
     if 128 < met {
         return Limit::Lemmas(met);
     }
@@ -63,19 +65,19 @@ fn lemmas_limit(lemmas: &[u8]) -> Limit
 }
 
 // No output, and so many bad literals; then the lemmas.
+#[tactic(auto, unfolding(crate::specs::Limits::bads_limit))]
 fn bads_limit(bads: usize, lemmas: &[u8]) -> Limit
     ensures { result ≡ bads_limit bads lemmas.now }
 {
-    if bads == 0 {
-        return Limit::NoBad;
+    match bads {
+        0 => Limit::NoBad,
+        1 => lemmas_limit(lemmas),
+        _ => Limit::Bads(bads),
     }
-    if bads != 1 {
-        return Limit::Bads(bads);
-    }
-    lemmas_limit(lemmas)
 }
 
 // Outputs and bad literals, then the lemmas.
+#[tactic(auto, unfolding(crate::specs::Limits::property_limit))]
 fn property_limit(outputs: usize, bads: usize, lemmas: &[u8]) -> Limit
     ensures { result ≡ property_limit outputs bads lemmas.now }
 {
@@ -92,51 +94,42 @@ fn property_limit(outputs: usize, bads: usize, lemmas: &[u8]) -> Limit
 }
 
 // Inputs and gates, then outputs and bad literals, then the lemmas.
-fn width_limit(text: &[u8], h: Header, lemmas: &[u8]) -> Limit
-    requires { Parts text.now h }
-    ensures { result ≡ width_limit (header_at text.now h) lemmas.now }
+#[tactic(auto, using(crate::specs::LimitLaws::is_wide, crate::specs::LimitLaws::is_narrow, lines::specs::Numbers::value_is), unfolding(circuit_text::specs::Header::header_at))]
+fn width_limit(h: &Header, lemmas: &[u8]) -> Limit
+    ensures { result ≡ width_limit (header_at h.now) lemmas.now }
 {
-    let i = h.i;
-    let o = h.o;
-    let a = h.a;
-    let b = h.b;
-    if 320 < i.value {
-        return Limit::Width(i.value, a.value);
+    if 320 < h.i.value || 320 - h.i.value < h.a.value {
+        return Limit::Width(h.i.value, h.a.value);
     }
-    if 320 - i.value < a.value {
-        return Limit::Width(i.value, a.value);
-    }
-    property_limit(o.value, b.value, lemmas)
+    property_limit(h.o.value, h.b.value, lemmas)
 }
 
 // The latches, then the rest.
-fn header_limit(text: &[u8], h: Header, lemmas: &[u8]) -> Limit
-    requires { Parts text.now h }
-    ensures { result ≡ header_limit (header_at text.now h) lemmas.now }
+#[tactic(auto, using(crate::specs::LimitLaws::no_latch, crate::specs::LimitLaws::many_latches, crate::specs::LimitLaws::few_latches, lines::specs::Numbers::value_is), unfolding(circuit_text::specs::Header::header_at))]
+fn header_limit(h: &Header, lemmas: &[u8]) -> Limit
+    ensures { result ≡ header_limit (header_at h.now) lemmas.now }
 {
-    let l = h.l;
-    if l.value == 0 {
+    if h.l.value == 0 {
         return Limit::NoLatch;
     }
-    if 96 < l.value {
-        return Limit::Latches(l.value);
+    if 96 < h.l.value {
+        return Limit::Latches(h.l.value);
     }
-    width_limit(text, h, lemmas)
+    width_limit(h, lemmas)
 }
 
-// The first limit that the texts are over, in the order of the list; the clauses, which are not counted here, where no other is.
-pub fn limit_of(text: &[u8], lemmas: &[u8]) -> Limit
+// The first limit that the texts are over, in the order of the list; the clauses, which are not counted here, where no other is; none, where
+// there is no header.
+#[tactic(auto, unfolding(crate::specs::Limits::limit_of))]
+pub fn limit_of(text: &[u8], lemmas: &[u8]) -> Option<Limit>
     ensures { result ≡ limit_of text.now lemmas.now }
 {
     if 65536 < text.len() {
-        return Limit::LongCircuit;
+        return Some(Limit::LongCircuit);
     }
     if 65536 < lemmas.len() {
-        return Limit::LongLemmas;
+        return Some(Limit::LongLemmas);
     }
-    let h = read_header(text);
-    if !h.right {
-        return Limit::Nothing;
-    }
-    header_limit(text, h, lemmas)
+    let h = read_header(text)?;
+    Some(header_limit(&h, lemmas))
 }

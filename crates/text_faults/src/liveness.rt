@@ -11,21 +11,19 @@ pub struct Liveness {
     pub fairness: usize,
 }
 
-// None, where the header is not right.
+// None, where the header is not right: a count of 0, as `liveness_of` in specs/Liveness.antt says, and no Option.
+#[tactic(auto, using(crate::specs::Liveness::live_is, lines::specs::Numbers::value_is), unfolding(crate::specs::Liveness::liveness_of, circuit_text::specs::Header::header_at))]
 pub fn liveness_of(text: &[u8]) -> Liveness
     ensures { result ≡ liveness_of text.now }
 {
-    let h = read_header(text);
-    if !h.right {
+    let Some(h) = read_header(text) else {
         return Liveness {
             justice: 0,
             fairness: 0,
         };
-    }
-    let j = h.j;
-    let f = h.f;
+    };
     Liveness {
-        justice: j.value,
-        fairness: f.value,
+        justice: h.j.value,
+        fairness: h.f.value,
     }
 }

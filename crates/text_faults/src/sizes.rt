@@ -24,14 +24,12 @@ pub struct Sizes {
 }
 
 // A sum, as far as it is told apart.
+#[tactic(auto, using(crate::specs::Sizes::capped_cases))]
 fn added(a: usize, b: usize) -> usize
     requires { a ≤ huge }
     ensures { (result ≡ capped (a + b)) × (result ≤ huge) }
 {
-    if Number::HUGE - a <= b {
-        return Number::HUGE;
-    }
-    a + b
+    a.saturating_add(b).min(Number::HUGE)
 }
 
 // The numbers that so many lines start with, all together.
@@ -40,61 +38,43 @@ fn first_sum(text: &[u8], at: usize, count: usize) -> usize
     ensures { result ≡ capped (first_sum count text.now at) }
 {
     let mut p = at;
-    let mut left = count;
     let mut sum: usize = 0;
-    while p < text.len() {
-        if left == 0 {
+    for done in 0..count {
+        if text.len() <= p {
             return sum;
         }
-        let x = number_at(text, p);
-        sum = added(sum, x.value);
+        sum = added(sum, number_at(text, p).value);
         p = after_line(text, p);
-        left -= 1;
     }
     sum
 }
 
 // Where the counts of the justice properties start.
-fn counts_at(text: &[u8], h: Header) -> usize
-    requires { Parts text.now h }
-    ensures { (result ≡ counts_at text.now (header_at text.now h) h.next) × (result ≤ length text.now) }
+#[tactic(auto, using(lines::specs::Numbers::value_is), unfolding(crate::specs::Sizes::counts_at, circuit_text::specs::Header::header_at))]
+fn counts_at(text: &[u8], h: &Header) -> usize
+    requires { Parts text.now h.now }
+    ensures { (result ≡ counts_at text.now (header_at h.now) h.now.next) × (result ≤ length text.now) }
 {
-    let i = h.i;
-    let l = h.l;
-    let o = h.o;
-    let b = h.b;
-    let c = h.c;
-    let outputs = skip(text, skip(text, h.next, i.value), l.value);
-    skip(
-        text,
-        skip(text, skip(text, outputs, o.value), b.value),
-        c.value,
-    )
+    let outputs = skip(text, skip(text, h.next, h.i.value), h.l.value);
+    let constraints = skip(text, skip(text, outputs, h.o.value), h.b.value);
+    skip(text, constraints, h.c.value)
 }
 
 // By the header and the counts.
-pub fn sizes_of(text: &[u8], h: Header) -> Sizes
-    requires { Parts text.now h }
-    ensures { result ≡ sizes_of text.now (header_at text.now h) h.next }
+#[tactic(auto, using(lines::specs::Numbers::value_is), unfolding(crate::specs::Sizes::sizes_of, circuit_text::specs::Header::header_at))]
+pub fn sizes_of(text: &[u8], h: &Header) -> Sizes
+    requires { Parts text.now h.now }
+    ensures { result ≡ sizes_of text.now (header_at h.now) h.now.next }
 {
-    let i = h.i;
-    let l = h.l;
-    let o = h.o;
-    let a = h.a;
-    let b = h.b;
-    let c = h.c;
-    let j = h.j;
-    let f = h.f;
-    let justice = first_sum(text, counts_at(text, h), j.value);
     Sizes {
-        inputs: i.value,
-        latches: l.value,
-        outputs: o.value,
-        bads: b.value,
-        constraints: c.value,
-        counts: j.value,
-        justice,
-        fairness: f.value,
-        gates: a.value,
+        inputs: h.i.value,
+        latches: h.l.value,
+        outputs: h.o.value,
+        bads: h.b.value,
+        constraints: h.c.value,
+        counts: h.j.value,
+        justice: first_sum(text, counts_at(text, h), h.j.value),
+        fairness: h.f.value,
+        gates: h.a.value,
     }
 }

@@ -1,5 +1,5 @@
 -- What is wrong with a line, in plain words, and what to do.
-use Rattle.std.specs.Prelude.{ℕ, List}
+use Rattle.std.specs.Prelude.{ℕ, List, Option, None, Some}
 use Rattle.text.specs.Ascii.{ascii}
 use Rattle.text.specs.Filled.{filled}
 use Rattle.text_faults.specs.declared.kind.Kind.{Kind}
@@ -53,11 +53,11 @@ cause_text text SymbolRange = ascii "there is no such position: positions are co
 cause_text text SymbolTwice = ascii "an earlier line names this position\n"
 
 -- why a line of lemmas is refused, over so many latches
-abbrev pub lemma_cause_text : ℕ → Lemma.Cause → List ℕ
-lemma_cause_text latches lemma.Open = ascii "no newline ends the line: the text may have been cut\n"
-lemma_cause_text latches (lemma.Word j) =
+abbrev pub lemma_cause_text : ℕ → Option Lemma.Cause → List ℕ
+lemma_cause_text latches (Some lemma.Open) = ascii "no newline ends the line: the text may have been cut\n"
+lemma_cause_text latches (Some (lemma.Word j)) =
     filled (ascii "word # is not a number, with or without a - before it; it is empty where the line is, or where a space is too many\n") j 0 0
-lemma_cause_text latches (lemma.Inner j) = filled (ascii "number # is 0, which stands only at the end, and the line goes on (perhaps with a space)\n") j 0 0
-lemma_cause_text latches (lemma.Over j) = filled (ascii "number # names no latch: by its header the circuit has # of them\n") j latches 0
-lemma_cause_text latches lemma.NoZero = ascii "the line does not end with a 0 without a sign\n"
-lemma_cause_text latches lemma.Nothing = ascii "no lemma\n"
+lemma_cause_text latches (Some (lemma.Inner j)) = filled (ascii "number # is 0, which stands only at the end, and the line goes on (perhaps with a space)\n") j 0 0
+lemma_cause_text latches (Some (lemma.Over j)) = filled (ascii "number # names no latch: by its header the circuit has # of them\n") j latches 0
+lemma_cause_text latches (Some lemma.NoZero) = ascii "the line does not end with a 0 without a sign\n"
+lemma_cause_text latches None = ascii "no lemma\n"

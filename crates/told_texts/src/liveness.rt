@@ -2,7 +2,7 @@
 ghost use Rattle.text.specs.Page.{Holds};
 ghost use Rattle.told_texts.specs.Liveness.{liveness_line};
 
-use text::{put_all, put_filled};
+use text::Page;
 use text_faults::liveness::Liveness;
 use usage::put_word;
 
@@ -10,14 +10,12 @@ use usage::put_word;
 pub fn liveness_line(name: &[u8], live: Liveness, out: &mut [u8]) -> usize
     ensures { Holds out.old (liveness_line name.now live) out.new result }
 {
-    let mut at = put_all(out, 0, b"refusal 15: the circuit ");
-    at = put_word(out, at, name);
-    put_filled(
-        out,
-        at,
+    let mut page = Page::new(out);
+    page.put_all(b"refusal 15: the circuit ");
+    put_word(&mut page, name);
+    page.put_filled(
         b": justice properties: #, fairness constraints: #, but liveness is not read: take s_eventually and all other liveness properties out of the design\n",
-        live.justice as u64,
-        live.fairness as u64,
-        0,
-    )
+        &[live.justice as u64, live.fairness as u64],
+    );
+    page.end
 }

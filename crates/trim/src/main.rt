@@ -14,12 +14,12 @@ use std::env::FillError;
 use std::rt::Env;
 use words::{Job, Order};
 
-// The order of the words, which of them name the file and the lemma file (0 is none), and which was the last that was read.
+// The order of the words, which of them name the file and the lemma file, and which was the last that was read.
 #[derive(Clone, Copy)]
 struct Given {
     order: Order,
-    file: usize,
-    lemmas: usize,
+    file: Option<usize>,
+    lemmas: Option<usize>,
     last: usize,
 }
 
@@ -34,112 +34,87 @@ fn arg_count(rt: &HostRuntime) -> usize {
     usize::MAX
 }
 
-// Puts a word at the start of buf, and answers its length: 0 where it is missing or longer than buf.
-pub fn arg(rt: &HostRuntime, i: usize, buf: &mut [u8]) -> usize
-    ensures { result ≤ length buf.new }
+// A word, read into buf: an empty one where it is missing or longer than buf, and no place takes that.
+pub fn arg<'a>(rt: &HostRuntime, i: usize, buf: &'a mut [u8]) -> &'a [u8]
+    ensures { length result.now ≤ length buf.old }
 {
     match rt.arg(i, buf) {
-        Ok(n) => n,
-        Err(_) => 0,
+        Ok(n) => &buf[..n],
+        Err(_) => &[],
     }
-}
-
-// A word of more than 65,536 bytes reads as an empty one, which no place takes.
-fn taken(rt: &HostRuntime, order: Order, i: usize) -> Order {
-    let mut buf = reading::word_room();
-    let n = arg(rt, i, &mut buf);
-    words::take(order, &buf[..n])
-}
-
-fn names_file(rt: &HostRuntime, order: Order, i: usize) -> bool {
-    let mut buf = reading::word_room();
-    let n = arg(rt, i, &mut buf);
-    words::is_file(order, &buf[..n])
-}
-
-fn names_lemmas(rt: &HostRuntime, order: Order, i: usize) -> bool {
-    let mut buf = reading::word_room();
-    let n = arg(rt, i, &mut buf);
-    words::is_lemmas(order, &buf[..n])
 }
 
 // The words in turn, up to the first that is at fault. Word 0 is the program's own name.
 fn read_words(rt: &HostRuntime) -> Given {
-    let count = arg_count(rt);
+    let mut buf = page::room::<{ reading::WORD }>();
     let mut order = words::begin();
-    let mut file: usize = 0;
-    let mut lemmas: usize = 0;
-    let mut i: usize = 1;
-    while i < count {
-        if names_file(rt, order, i) {
-            file = i;
+    let mut file = None;
+    let mut lemmas = None;
+    let mut last = arg_count(rt);
+    for i in 1..last {
+        let word = arg(rt, i, &mut buf);
+        if words::is_file(order, word) {
+            file = Some(i);
         }
-        if names_lemmas(rt, order, i) {
-            lemmas = i;
+        if words::is_lemmas(order, word) {
+            lemmas = Some(i);
         }
-        order = taken(rt, order, i);
-        let fault = order.fault;
-        if words::faulty(fault) {
+        order = words::take(order, word);
+        if order.fault.is_some() {
+            last = i;
             break;
         }
-        i += 1;
     }
     Given {
         order: words::finish(order),
         file,
         lemmas,
-        last: i,
+        last,
     }
 }
 
 fn tell_fault(rt: &HostRuntime, order: Order, i: usize) {
-    let mut buf = reading::word_room();
-    let n = arg(rt, i, &mut buf);
-    let mut page = page::line();
-    let end = usage::fault_line(order, &buf[..n], &mut page);
-    page::show(rt, Stream::Errors, &page, end);
+    let mut buf = page::room::<{ reading::WORD }>();
+    let word = arg(rt, i, &mut buf);
+    let _shown = page::told::<{ page::LINE }, _>(
+        rt,
+        Stream::Errors,
+        |page| usage::fault_line(order, word, page),
+    );
 }
 
 fn tell_help(rt: &HostRuntime) {
-    let mut page = page::help_room();
-    let end = usage::help_text(&mut page);
-    page::show(rt, Stream::Output, &page, end);
+    let _shown = page::told::<{ page::HELP }, _>(rt, Stream::Output, |page| usage::help_text(page));
 }
 
 fn tell_version(rt: &HostRuntime) {
-    let mut page = page::line();
-    let end = usage::version_line(&mut page);
-    page::show(rt, Stream::Output, &page, end);
+    let _shown = page::told::<{ page::LINE }, _>(
+        rt,
+        Stream::Output,
+        |page| usage::version_line(page),
+    );
 }
 
 // The job on a problem file, or on a circuit and its lemmas.
 fn work(rt: &HostRuntime, g: Given) {
-    let order = g.order;
-    if order.lemmas {
-        texts::work(rt, order, g.file, g.lemmas);
-        return;
+    match (g.file, g.lemmas) {
+        (Some(file), Some(lemmas)) => texts::work(rt, g.order, file, lemmas),
+        (Some(file), None) => reading::work(rt, g.order, file),
+        (None, _) => {}
     }
-    reading::work(rt, order, g.file);
 }
 
 fn main(rt: HostRuntime) {
     let rt = &rt;
     let g = read_words(rt);
-    let order = g.order;
-    let fault = order.fault;
-    if words::faulty(fault) {
-        tell_fault(rt, order, g.last);
+    if g.order.fault.is_some() {
+        tell_fault(rt, g.order, g.last);
         return;
     }
-    let job = order.job;
-    match job {
-        Job::Awaited => {}
-        Job::Help => tell_help(rt),
-        Job::Version => tell_version(rt),
-        Job::Check => work(rt, g),
-        Job::Largest => work(rt, g),
-        Job::One => work(rt, g),
-        Job::List => work(rt, g),
-        Job::Problem => work(rt, g),
+    match g.order.job {
+        None => {}
+        Some(Job::Help) => tell_help(rt),
+        Some(Job::Version) => tell_version(rt),
+        Some(Job::Check | Job::Largest | Job::One | Job::List | Job::Problem) => work(rt, g),
     }
 }

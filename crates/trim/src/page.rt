@@ -1,9 +1,13 @@
 // Pages: a text is written on one, and its first bytes go out.
 
-ghost use Rattle.std.specs.Prelude.{◌≡◌, ◌≤◌, length};
+ghost use Rattle.std.specs.Prelude.{◌≡◌, ◌≤◌, ◌<◌, ◌^◌, length};
 
 use std::io;
 use std::io::Write;
+
+// A line that could not be written, which was told.
+#[derive(Clone, Copy)]
+pub struct Unwritten;
 
 // Where a page goes: answers to standard output, all else to standard error.
 #[derive(Clone, Copy)]
@@ -12,18 +16,16 @@ pub enum Stream {
     Errors,
 }
 
-// Room for a line. The `ensures` gives only the length, which lending the array as a slice needs.
-pub fn line() -> [u8; 1024]
-    ensures { 1024 ≡ length result }
-{
-    [0; 1024]
-}
+// How long a line may be, and the page of help.
+pub const LINE: usize = 1024;
 
-// Room for the page of help.
-pub fn help_room() -> [u8; 4096]
-    ensures { 4096 ≡ length result }
+pub const HELP: usize = 4096;
+
+// Room for so many bytes. The `ensures` gives only the length, which lending the array as a slice needs.
+pub fn room<const N: usize>() -> [u8; N]
+    ensures { N ≡ length result }
 {
-    [0; 4096]
+    [0; N]
 }
 
 fn write_to(rt: &HostRuntime, stream: Stream, text: &[u8]) -> io::Result<()> {
@@ -57,23 +59,36 @@ fn tell(rt: &HostRuntime, what: &[u8], error: &io::Error) {
     let _end = write_to(rt, Stream::Errors, b"\n");
 }
 
-// The first bytes of a page; every line fits the page of `line`. Where they cannot be written that is told, and the answer is false.
-pub fn show(rt: &HostRuntime, stream: Stream, page: &[u8], n: usize) -> bool {
-    if page.len() < n {
-        return false;
-    }
-    match write_to(rt, stream, &page[..n]) {
-        Ok(()) => true,
-        Err(error) => {
-            tell(rt, b"trim: cannot write", &error);
-            false
-        }
-    }
+// The first bytes of a page; every line fits the page of `line`. Where they cannot be written that is told.
+pub fn show(rt: &HostRuntime, stream: Stream, page: &[u8], n: usize) -> Result<(), Unwritten> {
+    let text = page.get(..n).ok_or(Unwritten)?;
+    write_to(rt, stream, text).map_err(|error| {
+        tell(rt, b"trim: cannot write", &error);
+        Unwritten
+    })
 }
 
-// The first bytes of a page, to standard error, and the system's own words for what failed.
-pub fn fail(rt: &HostRuntime, page: &[u8], n: usize, error: &io::Error) {
-    if n <= page.len() {
-        tell(rt, &page[..n], error);
+// A text that is written on a page of its own, and shown.
+pub fn told<const N: usize, F: FnOnce(&mut [u8]) -> usize>(
+    rt: &HostRuntime,
+    stream: Stream,
+    write: F,
+) -> Result<(), Unwritten>
+    requires callable { (page : _) → F.pre write page }
+    requires small { N < 2 ^ 63 }
+{
+    let mut page = room::<N>();
+    let end = write(&mut page);
+    show(rt, stream, &page, end)
+}
+
+// The start of a line, to standard error, and the system's own words for what failed.
+pub fn fail<F: FnOnce(&mut [u8]) -> usize>(rt: &HostRuntime, error: &io::Error, write: F)
+    requires { (page : _) → F.pre write page }
+{
+    let mut page = room::<LINE>();
+    let end = write(&mut page);
+    if let Some(text) = page.get(..end) {
+        tell(rt, text, error);
     }
 }

@@ -1,5 +1,5 @@
 // A file: opened, and read whole. A problem file is handed to the job.
-ghost use Rattle.std.specs.Prelude.{◌≡◌, ◌+◌, ◌≤◌, length, IfOk};
+ghost use Rattle.std.specs.Prelude.{◌≡◌, ◌≤◌, length, IfOk};
 
 use crate::page::Stream;
 use crate::{arg, page, telling};
@@ -9,25 +9,10 @@ use std::io::Read;
 use words::Order;
 
 // One byte more than a file may have, so that a longer one is refused and not cut.
-fn room() -> [u8; 65537]
-    ensures { 65537 ≡ length result }
-{
-    [0; 65537]
-}
+const FILE: usize = 65537;
 
 // Room for a word: a longer one reads as an empty one.
-pub fn word_room() -> [u8; 65536]
-    ensures { 65536 ≡ length result }
-{
-    [0; 65536]
-}
-
-// More than buf has.
-fn failed(buf: &[u8]) -> usize
-    ensures { result ≡ length buf.now + 1 }
-{
-    buf.len() + 1
-}
+pub const WORD: usize = 65536;
 
 // Reads once, and answers how many bytes that were.
 fn read_once<R: Read>(from: &mut R, buf: &mut [u8]) -> io::Result<usize>
@@ -37,8 +22,11 @@ fn read_once<R: Read>(from: &mut R, buf: &mut [u8]) -> io::Result<usize>
 }
 
 // Reads until buf is full or the input ends, and answers how many bytes that were.
-fn read_all<R: Read>(from: &mut R, buf: &mut [u8]) -> io::Result<usize> {
+fn read_all<R: Read>(from: &mut R, buf: &mut [u8]) -> io::Result<usize>
+    ensures { IfOk result (λ n. n ≤ length buf.new) }
+{
     let mut done: usize = 0;
+    // A read gives as many bytes as it likes: `done` jumps, and counts no turns.
     while done < buf.len() {
         let n = read_once(from, &mut buf[done..])?;
         if n == 0 {
@@ -49,25 +37,18 @@ fn read_all<R: Read>(from: &mut R, buf: &mut [u8]) -> io::Result<usize> {
     Ok(done)
 }
 
-fn tell_not_opened(rt: &HostRuntime, name: &[u8], error: &io::Error) {
-    let mut page = page::line();
-    let end = usage::not_opened(name, &mut page);
-    page::fail(rt, &page, end, error);
-}
-
-fn tell_not_read(rt: &HostRuntime, name: &[u8], error: &io::Error) {
-    let mut page = page::line();
-    let end = usage::not_read(name, &mut page);
-    page::fail(rt, &page, end, error);
-}
-
-// Reads a file that is open. What fails is told, and then the answer is more than buf has.
-fn read_told<R: Read>(rt: &HostRuntime, name: &[u8], from: &mut R, buf: &mut [u8]) -> usize {
+// Reads a file that is open. What fails is told, and then there is no text.
+fn read_told<'a, R: Read>(
+    rt: &HostRuntime,
+    name: &[u8],
+    from: &mut R,
+    buf: &'a mut [u8],
+) -> Option<&'a [u8]> {
     match read_all(from, buf) {
-        Ok(n) => n,
+        Ok(n) => Some(&buf[..n]),
         Err(error) => {
-            tell_not_read(rt, name, &error);
-            failed(buf)
+            page::fail(rt, &error, |page| usage::not_read(name, page));
+            None
         }
     }
 }
@@ -80,51 +61,37 @@ fn open(rt: &HostRuntime, name: &[u8]) -> io::Result<File> {
     }
 }
 
-// Reads the file of a name, and answers how many bytes that were; a dash is standard input. What fails is told, and then the answer is more
-// than buf has.
-pub fn read_named(rt: &HostRuntime, name: &[u8], buf: &mut [u8]) -> usize {
+// Reads the file of a name; a dash is standard input. What fails is told, and then there is no text.
+pub fn read_named<'a>(rt: &HostRuntime, name: &[u8], buf: &'a mut [u8]) -> Option<&'a [u8]> {
     if words::is_input(name) {
         return read_told(rt, name, &mut rt.stdin(), buf);
     }
     match open(rt, name) {
         Ok(mut file) => read_told(rt, name, &mut file, buf),
         Err(error) => {
-            tell_not_opened(rt, name, &error);
-            failed(buf)
+            page::fail(rt, &error, |page| usage::not_opened(name, page));
+            None
         }
     }
-}
-
-fn tell_circuit_alone(rt: &HostRuntime, name: &[u8]) {
-    let mut page = page::line();
-    let end = usage::circuit_alone(name, &mut page);
-    page::show(rt, Stream::Errors, &page, end);
 }
 
 // A circuit is no problem file.
 fn work_file(rt: &HostRuntime, order: Order, name: &[u8], file: &[u8]) {
     if spelling::is_circuit(file) {
-        tell_circuit_alone(rt, name);
+        let _shown = page::told::<{ page::LINE }, _>(rt, Stream::Errors, |page| {
+            usage::circuit_alone(name, page)
+        });
         return;
     }
     telling::answer(rt, order, file);
 }
 
-fn work_on(rt: &HostRuntime, order: Order, name: &[u8], file: &[u8], n: usize) {
-    if n <= file.len() {
-        work_file(rt, order, name, &file[..n]);
-    }
-}
-
-fn work_named(rt: &HostRuntime, order: Order, name: &[u8]) {
-    let mut file = room();
-    let n = read_named(rt, name, &mut file);
-    work_on(rt, order, name, &file, n);
-}
-
 // The job on the problem file that a word names.
 pub fn work(rt: &HostRuntime, order: Order, i: usize) {
-    let mut buf = word_room();
-    let n = arg(rt, i, &mut buf);
-    work_named(rt, order, &buf[..n]);
+    let mut buf = page::room::<WORD>();
+    let name = arg(rt, i, &mut buf);
+    let mut room = page::room::<FILE>();
+    if let Some(file) = read_named(rt, name, &mut room) {
+        work_file(rt, order, name, file);
+    }
 }

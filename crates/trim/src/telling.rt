@@ -1,120 +1,107 @@
 // An order's job on a file, and what is told of it, line by line. Answers go to standard output, up to a line that cannot be written; a
 // refusal to standard error, after the sets that a listing found before it.
 use crate::page;
-use crate::page::Stream;
+use crate::page::{Stream, Unwritten};
 use answers::{doing, lines as told_lines};
 use problem::Report;
 use told::Job;
 use words::Order;
 
-fn tell_head(
-    rt: &HostRuntime,
+// A job on a file, as it was ordered.
+#[derive(Clone, Copy)]
+struct Telling<'a> {
+    rt: &'a HostRuntime,
     order: Order,
     job: Job,
-    file: &[u8],
-    r: Report,
-    lent: &[u8],
-) -> bool {
-    let mut page = page::line();
-    let end = told_lines::head_text(order.marks, job, file, r, lent, &mut page);
-    page::show(rt, Stream::Output, &page, end)
+    file: &'a [u8],
 }
 
-fn tell_lemma(rt: &HostRuntime, file: &[u8], position: usize) -> bool {
-    let mut page = page::line();
-    let end = told_lemmas::lemma_line(file, position, &mut page);
-    page::show(rt, Stream::Output, &page, end)
-}
-
-// The lemma at a position, if it is marked.
-fn tell_marked(rt: &HostRuntime, file: &[u8], mark: u8, position: usize) -> bool {
-    if mark != 1 {
-        return true;
+impl<'a> Telling<'a> {
+    fn head(self, r: Report, lent: &[u8]) -> Result<(), Unwritten> {
+        page::told::<{ page::LINE }, _>(self.rt, Stream::Output, |page| {
+            told_lines::head_text(self.order.marks, self.job, self.file, r, lent, page)
+        })
     }
-    tell_lemma(rt, file, position)
-}
 
-// The lemmas that are marked, by position.
-fn tell_lemmas(rt: &HostRuntime, file: &[u8], marks: &[u8]) -> bool {
-    let mut i: usize = 0;
-    while i < marks.len() {
-        if !tell_marked(rt, file, marks[i], i) {
-            return false;
+    fn lemma(self, position: usize) -> Result<(), Unwritten> {
+        page::told::<{ page::LINE }, _>(self.rt, Stream::Output, |page| {
+            told_lemmas::lemma_line(self.file, position, page)
+        })
+    }
+
+    // The lemmas that are marked, by position.
+    fn lemmas(self, marks: &[u8]) -> Result<(), Unwritten> {
+        for (position, mark) in marks.iter().enumerate() {
+            if *mark == 1 {
+                self.lemma(position)?;
+            }
         }
-        i += 1;
+        Ok(())
     }
-    true
-}
 
-fn tell_set_line(rt: &HostRuntime, order: Order, job: Job, number: usize, set: &[u8]) -> bool {
-    let mut page = page::line();
-    let end = told_lines::set_text(order.marks, job, number, set, &mut page);
-    page::show(rt, Stream::Output, &page, end)
-}
-
-fn tell_set(
-    rt: &HostRuntime,
-    order: Order,
-    job: Job,
-    file: &[u8],
-    number: usize,
-    set: &[u8],
-) -> bool {
-    if !tell_set_line(rt, order, job, number, set) {
-        return false;
+    fn set_line(self, number: usize, set: &[u8]) -> Result<(), Unwritten> {
+        page::told::<{ page::LINE }, _>(self.rt, Stream::Output, |page| {
+            told_lines::set_text(self.order.marks, self.job, number, set, page)
+        })
     }
-    if order.marks {
-        return true;
-    }
-    tell_lemmas(rt, file, set)
-}
 
-// So many sets of k marks, one behind the other.
-fn tell_sets(rt: &HostRuntime, order: Order, job: Job, file: &[u8], lent: &[u8], count: usize) {
-    let k = told_lines::k_of(file);
-    let mut start: usize = 0;
-    let mut told: usize = 0;
-    while told < count {
-        let end = text::row_end(lent.len(), start, k);
-        if !tell_set(rt, order, job, file, told + 1, &lent[start..end]) {
-            return;
+    fn set(self, number: usize, set: &[u8]) -> Result<(), Unwritten> {
+        self.set_line(number, set)?;
+        if self.order.marks {
+            return Ok(());
         }
-        start = end;
-        told += 1;
+        self.lemmas(set)
+    }
+
+    // So many sets of k marks, one behind the other.
+    fn sets(self, lent: &[u8], count: usize) -> Result<(), Unwritten> {
+        let k = told_lines::k_of(self.file);
+        let mut start: usize = 0;
+        for told in 0..count {
+            let end = text::row_end(lent.len(), start, k);
+            self.set(told + 1, &lent[start..end])?;
+            start = end;
+        }
+        Ok(())
+    }
+
+    fn answer(self, r: Report, lent: &[u8]) -> Result<(), Unwritten> {
+        self.head(r, lent)?;
+        self.sets(lent, told_lines::sets_told(self.job, r))
+    }
+
+    fn error(self, r: Report) -> Result<(), Unwritten> {
+        let order = self.order;
+        page::told::<{ page::LINE }, _>(self.rt, Stream::Errors, |page| {
+            told_lines::error_text(self.job, self.file, r, order.budget, order.space, page)
+        })
+    }
+
+    // The job on lent bytes, and what came of it.
+    fn done(self, lent: &mut [u8]) {
+        let r = doing::done(self.job, self.file, self.order.budget, lent);
+        let _answered = self.answer(r, lent);
+        let _refused = self.error(r);
     }
 }
 
-fn tell_error(rt: &HostRuntime, order: Order, job: Job, file: &[u8], r: Report) {
-    let mut page = page::line();
-    let end = told_lines::error_text(job, file, r, order.budget, order.space, &mut page);
-    page::show(rt, Stream::Errors, &page, end);
-}
-
-// The job on lent bytes, and what came of it.
-fn answer_on(rt: &HostRuntime, order: Order, job: Job, file: &[u8], lent: &mut [u8]) {
-    let r = doing::done(job, file, order.budget, lent);
-    if tell_head(rt, order, job, file, r, lent) {
-        tell_sets(rt, order, job, file, lent, told_lines::sets_told(job, r));
+// As many bytes of the room are lent as the job takes; an order never takes more. The room is lent as an array: in the function that makes it
+// the proof of its length did not close.
+fn answer_in(rt: &HostRuntime, order: Order, file: &[u8], room: &mut [u8; 1048576]) {
+    let job = doing::job_told(order.job);
+    let telling = Telling {
+        rt,
+        order,
+        job,
+        file,
+    };
+    if let Some(lent) = room.get_mut(..doing::lent_bytes(job, order.space)) {
+        telling.done(lent);
     }
-    tell_error(rt, order, job, file, r);
-}
-
-// As many bytes of the room are lent as the job takes; an order never takes more.
-fn answer_in(rt: &HostRuntime, order: Order, file: &[u8], room: &mut [u8]) {
-    let ordered = order.job;
-    let job = doing::job_told(ordered);
-    let n = doing::lent_bytes(job, order.space);
-    if n <= room.len() {
-        answer_on(rt, order, job, file, &mut room[..n]);
-    }
-}
-
-fn answer_lent(rt: &HostRuntime, order: Order, file: &[u8], room: &mut [u8; 1048576]) {
-    answer_in(rt, order, file, room);
 }
 
 // The job of an order that has no fault. The room is the largest space.
 pub fn answer(rt: &HostRuntime, order: Order, file: &[u8]) {
     let mut room = [0u8; 1048576];
-    answer_lent(rt, order, file, &mut room);
+    answer_in(rt, order, file, &mut room);
 }

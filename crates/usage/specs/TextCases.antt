@@ -1,5 +1,5 @@
 -- What is said of a command line's words, worked out.
-use Rattle.std.specs.Prelude.{ℕ, ◌≡◌, refl, false, [], ◌∷◌}
+use Rattle.std.specs.Prelude.{ℕ, ◌≡◌, refl, false, [], ◌∷◌, Some}
 use Rattle.text.specs.Ascii.{ascii}
 use Rattle.words.specs.declared.order.Job.TheVariants.{One}
 use Rattle.words.specs.declared.order.Fault.{Fault}
@@ -8,7 +8,7 @@ use Rattle.words.specs.declared.order.Order.{Order}
 use Rattle.usage.specs.Texts.{shown_byte, shown, around, allowed, number_text, fault_text, circuit_alone}
 
 abbrev with : ℕ → Fault → Order
-with named fault = record { job = One; named = named; marks = false; budget = 1000000; space = 65536; awaiting = false; lemmas = false; input = false; fault = fault }
+with named fault = record { job = Some One; named = named; marks = false; budget = 1000000; space = 65536; awaiting = false; lemmas = false; input = false; fault = Some fault }
 
 texts : (fault_text (with 1 NotANumber) (ascii "12x")
     ∷ fault_text (with 2 TooLarge) (ascii "1048577")

@@ -1,8 +1,8 @@
 -- What the program says of its own words: what is wrong with them, its help, its version.
-use Rattle.std.specs.Prelude.{ℕ, ◌&&◌, cond, List, [], ◌++◌, map, take, eqb, leb}
+use Rattle.std.specs.Prelude.{ℕ, ◌&&◌, cond, List, [], ◌++◌, map, take, eqb, leb, Option, None, Some}
 use Rattle.text.specs.Ascii.{ascii}
 use Rattle.words.specs.declared.order.Fault.{Fault}
-use Rattle.words.specs.declared.order.Fault.TheVariants.{Nothing, Unknown, Superfluous, NotANumber, TooLarge, NoFile, NoJob, NoLemmas, NoLemmaFile, TwoInputs}
+use Rattle.words.specs.declared.order.Fault.TheVariants.{Unknown, Superfluous, NotANumber, TooLarge, NoFile, NoJob, NoLemmas, NoLemmaFile, TwoInputs}
 use Rattle.words.specs.declared.order.Order.{Order}
 
 -- A word as it is shown: its first 200 bytes, and a `?` for each that is not a printable character of ASCII.
@@ -25,17 +25,17 @@ unfoldable pub number_text : ℕ → List ℕ → List ℕ → List ℕ
 number_text named w why = around (ascii "trim: ") w why ++ allowed named
 
 -- What is wrong with the words, and with which of them.
-abbrev pub fault_by : Fault → ℕ → List ℕ → List ℕ
-fault_by Nothing named w = []
-fault_by Unknown named w = around (ascii "trim: unknown word ") w (ascii ": say trim --help\n")
-fault_by Superfluous named w = around (ascii "trim: superfluous word ") w (ascii ": say trim --help\n")
-fault_by NotANumber named w = number_text named w (ascii " is not a number: ")
-fault_by TooLarge named w = number_text named w (ascii " is too large: ")
-fault_by NoFile named w = ascii "trim: no file is named: say trim --help\n"
-fault_by NoJob named w = ascii "trim: no job is named: say trim --help\n"
-fault_by NoLemmas named w = ascii "trim: problem is of circuits, and no lemmas are named: add --lemmas FILE\n"
-fault_by NoLemmaFile named w = ascii "trim: no file is named after --lemmas: add the name of the lemma file\n"
-fault_by TwoInputs named w = ascii "trim: only one file can be standard input: name a file for the circuit or for the lemmas\n"
+abbrev pub fault_by : Option Fault → ℕ → List ℕ → List ℕ
+fault_by None named w = []
+fault_by (Some Unknown) named w = around (ascii "trim: unknown word ") w (ascii ": say trim --help\n")
+fault_by (Some Superfluous) named w = around (ascii "trim: superfluous word ") w (ascii ": say trim --help\n")
+fault_by (Some NotANumber) named w = number_text named w (ascii " is not a number: ")
+fault_by (Some TooLarge) named w = number_text named w (ascii " is too large: ")
+fault_by (Some NoFile) named w = ascii "trim: no file is named: say trim --help\n"
+fault_by (Some NoJob) named w = ascii "trim: no job is named: say trim --help\n"
+fault_by (Some NoLemmas) named w = ascii "trim: problem is of circuits, and no lemmas are named: add --lemmas FILE\n"
+fault_by (Some NoLemmaFile) named w = ascii "trim: no file is named after --lemmas: add the name of the lemma file\n"
+fault_by (Some TwoInputs) named w = ascii "trim: only one file can be standard input: name a file for the circuit or for the lemmas\n"
 
 unfoldable pub fault_text : Order → List ℕ → List ℕ
 fault_text o w = fault_by o.fault o.named w

@@ -1,22 +1,16 @@
 -- Some lines looked at one after another, up to the first that does not pass.
-use Rattle.std.specs.Prelude.{ℕ, suc, ◌+◌, ◌-◌, ◌≤◌, ◌<◌, ◌≡◌, refl, Bool, true, false, List, get_or}
+use Rattle.std.specs.Prelude.{ℕ, suc, ◌+◌, ◌-◌, ◌≤◌, ◌<◌, ◌≡◌, refl, Bool, true, false, List, get_or, Ok, Err}
 use native.Mathlib.Omega.{arith}
 use Rattle.std.proofs.Common.{add-one, ◌∙◌}
 use Rattle.std.proofs.Math.Path.{sym, ap, subst}
-use Rattle.std.proofs.Math.Option.{Option, none, some}
 use Rattle.std.proofs.Math.ListN.{length}
 use Rattle.meaning.specs.Lines.{next_line}
 use Rattle.meaning.specs.Circuit
 use Rattle.meaning.specs.Circuit.{var}
 use Rattle.meaning.specs.CircuitText.{Line, numbers_at, at_number, known, fault_unless, first_not}
-use Rattle.sections.specs.declared.read.Ended.{Ended}
+use Rattle.lines.specs.Faults.{fault_of}
 use Rattle.sections.specs.Lists.{first_lines, line_after, after_more}
 use Rattle.sections.specs.SectionLines.{Row, Rows, next_inside}
-
--- the place of a line at fault, if there is one
-unfoldable pub fault_of : Option ℕ → Ended
-fault_of none = record { fault = false; at = 0 }
-fault_of (some at) = record { fault = true; at = at }
 
 -- number j of a line may be used
 unfoldable pub known_number : Circuit.Circuit → ℕ → Line → Bool
@@ -48,7 +42,7 @@ module _ (test : Line → Bool) (text : List ℕ) (width at count : ℕ) where
       }
 
   module _ {p i : ℕ} (g : Passing p i) where
-    pub passing_end : (i < count → ⊥) → record { fault = false; at = 0 } ≡ fault_of (first_not test (first_lines text at count))
+    pub passing_end : (i < count → ⊥) → Ok tt ≡ fault_of (first_not test (first_lines text at count))
     unfolding first_lines first_not fault_of
     passing_end past =
         sym (g.is ∙ ap (λ (k : ℕ). fault_of (first_not test (first_lines text p k))) (nothing_left g.low))
@@ -67,7 +61,7 @@ module _ (test : Line → Bool) (text : List ℕ) (width at count : ℕ) where
       passing_row = passing_rows.0
 
       pub passing_wrong : test (line_here text p) ≡ false
-          → record { fault = true; at = p } ≡ fault_of (first_not test (first_lines text at count))
+          → Err (record { at = p }) ≡ fault_of (first_not test (first_lines text at count))
       unfolding first_lines first_not fault_unless fault_of line_here
       passing_wrong wrong =
           sym (g.is ∙ ap (λ (k : ℕ). fault_of (first_not test (first_lines text p k))) up ∙ rw wrong)

@@ -1,8 +1,7 @@
 -- The first line that uses what it may not, put together.
-use Rattle.std.specs.Prelude.{ℕ, suc, ◌+◌, ◌<◌, ◌≡◌, refl, Bool, true, false, List, get_or, eqb}
-use Rattle.std.proofs.Common.{add-one, sym, ◌∙◌, true≢false, eq-eqb, ne_eqb}
+use Rattle.std.specs.Prelude.{ℕ, suc, ◌+◌, ◌<◌, ◌≡◌, refl, Bool, true, false, List, get_or, Result, Ok, Err}
+use Rattle.std.proofs.Common.{add-one, sym, ◌∙◌}
 use Rattle.std.proofs.Math.Path.{ap}
-use Rattle.std.proofs.Math.Bool.{not}
 use Rattle.std.proofs.Math.Option.{Option, none, some}
 use Rattle.meaning.specs.Demands.{In}
 use Rattle.meaning.specs.Circuit
@@ -10,10 +9,11 @@ use Rattle.meaning.specs.Circuit.{Gate, var, gate_variables}
 use Rattle.meaning.specs.CircuitText.{Line, Properties, Sections, gate_of, given, gate_works, first_not, first_unknown, or_else, uses_fault}
 use Rattle.circuit_laws.specs.Sane.{Once}
 use Rattle.sections.specs.declared.circuit.Circuit.{Circuit}
-use Rattle.sections.specs.declared.read.Ended.{Ended}
+use Rattle.lines.specs.declared.fault.Fault.{Fault}
+use Rattle.lines.specs.Faults.{fault_of}
 use Rattle.sections.specs.Lists.{line_after}
 use Rattle.sections.specs.Whole.{circuit_at}
-use Rattle.uses.specs.Passing.{fault_of, line_here}
+use Rattle.uses.specs.Passing.{line_here}
 use Rattle.uses.specs.Solve.{is_done}
 
 -- a gate line can be worked out
@@ -26,34 +26,24 @@ pub record Distinct (c : Circuit.Circuit) : Type 0 where
   pub apart : (g : Gate) → In g c.gates → given c (var g.lit) ≡ false
 
 -- each gate line's mark says whether it can be worked out
-abbrev pub MarksAre : List ℕ → Circuit → List ℕ → Type 0
+abbrev pub MarksAre : List ℕ → Circuit → List Bool → Type 0
 MarksAre text c d =
     (k : ℕ) → k < c.gates.count → is_done d (suc k) ≡ gate_passes (circuit_at text c) (line_here text (line_after text c.gates.at k))
 
-module _ (text : List ℕ) (c : Circuit) (d : List ℕ) (m : MarksAre text c d) (i p : ℕ) (less : i < c.gates.count) (p_is : p ≡ line_after text c.gates.at i) where
-  mark_is : not (eqb (get_or d (i + 1) 0) 0) ≡ gate_passes (circuit_at text c) (line_here text p)
+module _ (text : List ℕ) (c : Circuit) (d : List Bool) (m : MarksAre text c d) (i p : ℕ) (less : i < c.gates.count) (p_is : p ≡ line_after text c.gates.at i) where
+  mark_is : get_or d (i + 1) false ≡ gate_passes (circuit_at text c) (line_here text p)
   unfolding is_done
   mark_is =
-      ap (λ (k : ℕ). not (eqb (get_or d k 0) 0)) (add-one i) ∙ m i less
+      ap (λ (k : ℕ). get_or d k false) (add-one i) ∙ m i less
       ∙ ap (λ (k : ℕ). gate_passes (circuit_at text c) (line_here text k)) (sym p_is)
 
-  pub mark_stuck : get_or d (i + 1) 0 ≡ 0 → gate_passes (circuit_at text c) (line_here text p) ≡ false
-  mark_stuck e = sym mark_is ∙ ap not (eq-eqb (get_or d (i + 1) 0) 0 e)
+  pub mark_stuck : get_or d (i + 1) false ≡ false → gate_passes (circuit_at text c) (line_here text p) ≡ false
+  mark_stuck e = sym mark_is ∙ e
 
-  pub mark_works : (get_or d (i + 1) 0 ≡ 0 → ⊥) → gate_passes (circuit_at text c) (line_here text p) ≡ true
-  mark_works other = sym mark_is ∙ ap not (ne_eqb (get_or d (i + 1) 0) 0 other)
+  pub mark_works : get_or d (i + 1) false ≡ true → gate_passes (circuit_at text c) (line_here text p) ≡ true
+  mark_works e = sym mark_is ∙ e
 
 -- ---- latches, then what stands between, then gates
-
-or_else_first : (a b : Option ℕ) → (fault_of a).fault ≡ true → fault_of a ≡ fault_of (or_else a b)
-unfolding fault_of or_else
-or_else_first none b e = absurd (true≢false (sym e))
-or_else_first (some at) b e = refl
-
-or_else_next : (a b : Option ℕ) → (fault_of a).fault ≡ false → fault_of b ≡ fault_of (or_else a b)
-unfolding fault_of or_else
-or_else_next none b e = refl
-or_else_next (some at) b e = absurd (true≢false e)
 
 or_else_assoc : (a b d : Option ℕ) → or_else (or_else a b) d ≡ or_else a (or_else b d)
 unfolding or_else
@@ -61,12 +51,15 @@ or_else_assoc none b d = refl
 or_else_assoc (some at) b d = refl
 
 -- the first of two is at fault, or the second says it
-module _ (a b : Option ℕ) (r : Ended) (is : r ≡ fault_of a) where
-  pub here : r.fault ≡ true → r ≡ fault_of (or_else a b)
-  here e = is ∙ or_else_first a b (sym (ap (λ (x : Ended). x.fault) is) ∙ e)
+pub here : (a b : Option ℕ) (e : Fault) → Err e ≡ fault_of a → Err e ≡ fault_of (or_else a b)
+unfolding fault_of or_else
+here none b e is = absurd (cc)
+here (some at) b e is = is
 
-  pub later : r.fault ≡ false → (q : Ended) → q ≡ fault_of b → q ≡ fault_of (or_else a b)
-  later e q q_is = q_is ∙ or_else_next a b (sym (ap (λ (x : Ended). x.fault) is) ∙ e)
+pub later : (a b : Option ℕ) (u : Unit {0}) → Ok u ≡ fault_of a → (q : Result (Unit {0}) Fault) → q ≡ fault_of b → q ≡ fault_of (or_else a b)
+unfolding fault_of or_else
+later none b u is q q_is = q_is
+later (some at) b u is q q_is = absurd (cc)
 
 -- the first line between latches and gates that uses what it may not
 unfoldable pub properties_fault : Circuit.Circuit → Properties → Option ℕ

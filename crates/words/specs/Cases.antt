@@ -1,15 +1,14 @@
 -- Command lines, worked out.
-use Rattle.std.specs.Prelude.{ℕ, ◌≡◌, refl, Bool, true, false, List, [], ◌∷◌}
+use Rattle.std.specs.Prelude.{ℕ, ◌≡◌, refl, Bool, true, false, List, [], ◌∷◌, Option, None, Some, Ok, Err}
 use Rattle.text.specs.Ascii.{ascii}
-use Rattle.spelling.specs.Words.{same, is_option}
-use Rattle.spelling.specs.Numbers.{is_digit, all_digits, is_number, value_after, value, up_to, number_of}
-use Rattle.spelling.specs.declared.number.Number.TheVariants.{Value, Over, Not}
+use Rattle.spelling.specs.Numbers.{value_after, value, number_of}
+use Rattle.spelling.specs.declared.number.NumberFault.TheVariants.{Over, Not}
 use Rattle.words.specs.declared.order.Job.{Job}
-use Rattle.words.specs.declared.order.Job.TheVariants.{Awaited, Check, Largest, One, List as Listing, Problem, Help, Version}
+use Rattle.words.specs.declared.order.Job.TheVariants.{Check, Largest, One, List as Listing, Problem, Help, Version}
 use Rattle.words.specs.declared.order.Fault.{Fault}
-use Rattle.words.specs.declared.order.Fault.TheVariants.{Nothing, Unknown, Superfluous, NotANumber, TooLarge, NoFile, NoJob, NoLemmas, NoLemmaFile, TwoInputs}
+use Rattle.words.specs.declared.order.Fault.TheVariants.{Unknown, Superfluous, NotANumber, TooLarge, NoFile, NoJob, NoLemmas, NoLemmaFile, TwoInputs}
 use Rattle.words.specs.declared.order.Order.{Order}
-use Rattle.words.specs.Orders.{job_of, is_input, take_job, take_marks, take_asked, take_option, take_file, take_lemmas, take_named, take_plain}
+use Rattle.words.specs.Orders.{job_of, take_marks, take_asked, take_option, take_file, take_lemmas, take_named, take_plain}
 use Rattle.words.specs.Orders.{take_open, take_word, lacking_lemmas, lacking_file, lacking, finished, taken, order_of, begun, is_file, is_lemmas}
 
 -- a command line and the order that it gives: job, words named, marks, budget, space, fault; with no lemma file and no standard input, or with
@@ -18,7 +17,7 @@ record Case : Type 0 where
   words : List (List ℕ)
   gives : Order
 
-abbrev with_files : List (List ℕ) → Job → ℕ → Bool → ℕ → ℕ → Bool → Bool → Bool → Fault → Case
+abbrev with_files : List (List ℕ) → Option Job → ℕ → Bool → ℕ → ℕ → Bool → Bool → Bool → Option Fault → Case
 with_files ws job named marks budget space awaiting lemmas input fault =
     record {
       words = ws;
@@ -36,7 +35,7 @@ with_files ws job named marks budget space awaiting lemmas input fault =
           };
     }
 
-abbrev case : List (List ℕ) → Job → ℕ → Bool → ℕ → ℕ → Fault → Case
+abbrev case : List (List ℕ) → Option Job → ℕ → Bool → ℕ → ℕ → Option Fault → Case
 case ws job named marks budget space fault = with_files ws job named marks budget space false false false fault
 
 abbrev F : List ℕ
@@ -44,38 +43,38 @@ F = ascii "F"
 
 table : List Case
 table =
-    case (ascii "check" ∷ F ∷ []) Check 1 false 1000000 65536 Nothing
-    ∷ case (ascii "one" ∷ F ∷ ascii "12" ∷ []) One 2 false 12 65536 Nothing
-    ∷ case (ascii "largest" ∷ F ∷ ascii "4294967295" ∷ []) Largest 2 false 4294967295 65536 Nothing
-    ∷ with_files (ascii "list" ∷ ascii "-" ∷ ascii "0" ∷ ascii "1048576" ∷ []) Listing 3 false 0 1048576 false false true Nothing
-    ∷ with_files (ascii "problem" ∷ F ∷ ascii "--lemmas" ∷ ascii "-" ∷ []) Problem 1 false 1000000 65536 false true true Nothing
-    ∷ with_files (ascii "one" ∷ ascii "--lemmas" ∷ F ∷ ascii "-" ∷ ascii "7" ∷ []) One 2 false 7 65536 false true true Nothing
-    ∷ with_files (ascii "one" ∷ F ∷ ascii "9" ∷ ascii "--marks" ∷ ascii "--lemmas" ∷ F ∷ []) One 2 true 9 65536 false true false Nothing
-    ∷ with_files (ascii "one" ∷ ascii "-" ∷ ascii "--lemmas" ∷ ascii "-" ∷ []) One 1 false 1000000 65536 true false true TwoInputs
-    ∷ with_files (ascii "one" ∷ ascii "--lemmas" ∷ ascii "-" ∷ ascii "-" ∷ []) One 0 false 1000000 65536 false true true TwoInputs
-    ∷ with_files (ascii "one" ∷ F ∷ ascii "--lemmas" ∷ []) One 1 false 1000000 65536 true false false NoLemmaFile
-    ∷ with_files (ascii "one" ∷ ascii "--lemmas" ∷ ascii "--marks" ∷ F ∷ []) One 0 false 1000000 65536 true false false NoLemmaFile
-    ∷ with_files (ascii "one" ∷ F ∷ ascii "--lemmas" ∷ F ∷ ascii "--lemmas" ∷ []) One 1 false 1000000 65536 false true false Superfluous
-    ∷ case (ascii "problem" ∷ F ∷ []) Problem 1 false 1000000 65536 NoLemmas
-    ∷ case (ascii "problem" ∷ []) Problem 0 false 1000000 65536 NoFile
-    ∷ case (ascii "problem" ∷ F ∷ ascii "7" ∷ []) Problem 1 false 1000000 65536 Superfluous
-    ∷ case (ascii "problem" ∷ F ∷ ascii "--marks" ∷ []) Problem 1 false 1000000 65536 Superfluous
-    ∷ case (ascii "--help" ∷ ascii "--lemmas" ∷ F ∷ []) Help 0 false 1000000 65536 Superfluous
-    ∷ case (ascii "list" ∷ ascii "--marks" ∷ F ∷ ascii "007" ∷ []) Listing 2 true 7 65536 Nothing
-    ∷ case (ascii "one" ∷ F ∷ ascii "--marks" ∷ []) One 1 true 1000000 65536 Nothing
-    ∷ case (ascii "--help" ∷ []) Help 0 false 1000000 65536 Nothing
-    ∷ case (ascii "--version" ∷ []) Version 0 false 1000000 65536 Nothing
-    ∷ case [] Awaited 0 false 1000000 65536 NoJob
-    ∷ case (ascii "frob" ∷ F ∷ []) Awaited 0 false 1000000 65536 Unknown
-    ∷ case (ascii "list" ∷ []) Listing 0 false 1000000 65536 NoFile
-    ∷ case (ascii "list" ∷ ascii "--marks" ∷ []) Listing 0 true 1000000 65536 NoFile
-    ∷ case (ascii "one" ∷ F ∷ ascii "12x" ∷ ascii "frob" ∷ []) One 1 false 1000000 65536 NotANumber
-    ∷ case (ascii "one" ∷ F ∷ [] ∷ []) One 1 false 1000000 65536 NotANumber
-    ∷ case (ascii "one" ∷ F ∷ ascii "4294967296" ∷ []) One 1 false 1000000 65536 TooLarge
-    ∷ case (ascii "list" ∷ F ∷ ascii "5" ∷ ascii "1048577" ∷ []) Listing 2 false 5 65536 TooLarge
-    ∷ case (ascii "one" ∷ F ∷ ascii "12" ∷ ascii "5" ∷ []) One 2 false 12 65536 Superfluous
-    ∷ case (ascii "check" ∷ F ∷ ascii "--marks" ∷ []) Check 1 false 1000000 65536 Superfluous
-    ∷ case (ascii "one" ∷ ascii "--budget" ∷ F ∷ []) One 0 false 1000000 65536 Unknown
+    case (ascii "check" ∷ F ∷ []) (Some Check) 1 false 1000000 65536 None
+    ∷ case (ascii "one" ∷ F ∷ ascii "12" ∷ []) (Some One) 2 false 12 65536 None
+    ∷ case (ascii "largest" ∷ F ∷ ascii "4294967295" ∷ []) (Some Largest) 2 false 4294967295 65536 None
+    ∷ with_files (ascii "list" ∷ ascii "-" ∷ ascii "0" ∷ ascii "1048576" ∷ []) (Some Listing) 3 false 0 1048576 false false true None
+    ∷ with_files (ascii "problem" ∷ F ∷ ascii "--lemmas" ∷ ascii "-" ∷ []) (Some Problem) 1 false 1000000 65536 false true true None
+    ∷ with_files (ascii "one" ∷ ascii "--lemmas" ∷ F ∷ ascii "-" ∷ ascii "7" ∷ []) (Some One) 2 false 7 65536 false true true None
+    ∷ with_files (ascii "one" ∷ F ∷ ascii "9" ∷ ascii "--marks" ∷ ascii "--lemmas" ∷ F ∷ []) (Some One) 2 true 9 65536 false true false None
+    ∷ with_files (ascii "one" ∷ ascii "-" ∷ ascii "--lemmas" ∷ ascii "-" ∷ []) (Some One) 1 false 1000000 65536 true false true (Some TwoInputs)
+    ∷ with_files (ascii "one" ∷ ascii "--lemmas" ∷ ascii "-" ∷ ascii "-" ∷ []) (Some One) 0 false 1000000 65536 false true true (Some TwoInputs)
+    ∷ with_files (ascii "one" ∷ F ∷ ascii "--lemmas" ∷ []) (Some One) 1 false 1000000 65536 true false false (Some NoLemmaFile)
+    ∷ with_files (ascii "one" ∷ ascii "--lemmas" ∷ ascii "--marks" ∷ F ∷ []) (Some One) 0 false 1000000 65536 true false false (Some NoLemmaFile)
+    ∷ with_files (ascii "one" ∷ F ∷ ascii "--lemmas" ∷ F ∷ ascii "--lemmas" ∷ []) (Some One) 1 false 1000000 65536 false true false (Some Superfluous)
+    ∷ case (ascii "problem" ∷ F ∷ []) (Some Problem) 1 false 1000000 65536 (Some NoLemmas)
+    ∷ case (ascii "problem" ∷ []) (Some Problem) 0 false 1000000 65536 (Some NoFile)
+    ∷ case (ascii "problem" ∷ F ∷ ascii "7" ∷ []) (Some Problem) 1 false 1000000 65536 (Some Superfluous)
+    ∷ case (ascii "problem" ∷ F ∷ ascii "--marks" ∷ []) (Some Problem) 1 false 1000000 65536 (Some Superfluous)
+    ∷ case (ascii "--help" ∷ ascii "--lemmas" ∷ F ∷ []) (Some Help) 0 false 1000000 65536 (Some Superfluous)
+    ∷ case (ascii "list" ∷ ascii "--marks" ∷ F ∷ ascii "007" ∷ []) (Some Listing) 2 true 7 65536 None
+    ∷ case (ascii "one" ∷ F ∷ ascii "--marks" ∷ []) (Some One) 1 true 1000000 65536 None
+    ∷ case (ascii "--help" ∷ []) (Some Help) 0 false 1000000 65536 None
+    ∷ case (ascii "--version" ∷ []) (Some Version) 0 false 1000000 65536 None
+    ∷ case [] None 0 false 1000000 65536 (Some NoJob)
+    ∷ case (ascii "frob" ∷ F ∷ []) None 0 false 1000000 65536 (Some Unknown)
+    ∷ case (ascii "list" ∷ []) (Some Listing) 0 false 1000000 65536 (Some NoFile)
+    ∷ case (ascii "list" ∷ ascii "--marks" ∷ []) (Some Listing) 0 true 1000000 65536 (Some NoFile)
+    ∷ case (ascii "one" ∷ F ∷ ascii "12x" ∷ ascii "frob" ∷ []) (Some One) 1 false 1000000 65536 (Some NotANumber)
+    ∷ case (ascii "one" ∷ F ∷ [] ∷ []) (Some One) 1 false 1000000 65536 (Some NotANumber)
+    ∷ case (ascii "one" ∷ F ∷ ascii "4294967296" ∷ []) (Some One) 1 false 1000000 65536 (Some TooLarge)
+    ∷ case (ascii "list" ∷ F ∷ ascii "5" ∷ ascii "1048577" ∷ []) (Some Listing) 2 false 5 65536 (Some TooLarge)
+    ∷ case (ascii "one" ∷ F ∷ ascii "12" ∷ ascii "5" ∷ []) (Some One) 2 false 12 65536 (Some Superfluous)
+    ∷ case (ascii "check" ∷ F ∷ ascii "--marks" ∷ []) (Some Check) 1 false 1000000 65536 (Some Superfluous)
+    ∷ case (ascii "one" ∷ ascii "--budget" ∷ F ∷ []) (Some One) 0 false 1000000 65536 (Some Unknown)
     ∷ []
 
 abbrev orders : List Case → List Order
@@ -87,15 +86,13 @@ wanted [] = []
 wanted (c ∷ cs) = c.gives ∷ wanted cs
 
 cases : orders table ≡ wanted table
-unfolding table order_of taken take_word take_open take_job take_option take_marks take_asked take_lemmas take_file is_input
-    take_named take_plain lacking_lemmas lacking_file lacking finished job_of
-    same is_option is_digit all_digits is_number value_after value up_to number_of
+unfolding table order_of taken take_word take_open take_option take_marks take_asked take_lemmas take_file take_named take_plain lacking_lemmas lacking_file lacking finished job_of value_after value number_of
 cases = refl
 
 -- words as numbers
 numbers : (number_of (ascii "99") 99 ∷ number_of (ascii "0099") 99 ∷ number_of (ascii "100") 99 ∷ number_of (ascii "1 2") 99 ∷ number_of [] 99 ∷ [])
-    ≡ (Value 99 ∷ Value 99 ∷ Over ∷ Not ∷ Not ∷ [])
-unfolding is_digit all_digits is_number value_after value up_to number_of
+    ≡ (Ok 99 ∷ Ok 99 ∷ Err Over ∷ Err Not ∷ Err Not ∷ [])
+unfolding value_after value number_of
 numbers = refl
 
 -- which word is the file's name: none is the job's, and `--marks` is none
@@ -106,9 +103,7 @@ named : (is_file begun (ascii "list")
     ∷ is_file (taken begun (ascii "frob" ∷ [])) F
     ∷ [])
     ≡ (false ∷ false ∷ true ∷ false ∷ false ∷ [])
-unfolding is_file taken take_word take_open take_job take_option take_marks take_asked take_lemmas take_file is_input
-    take_named take_plain job_of
-    same is_option is_digit all_digits is_number value_after value up_to number_of
+unfolding is_file taken take_word take_open take_option take_marks take_asked take_lemmas take_file take_named take_plain job_of value_after value number_of
 named = refl
 
 -- which word is the lemma file's name: the one after `--lemmas`
@@ -119,6 +114,5 @@ lemmas_named : (is_lemmas (taken begun (ascii "one" ∷ [])) (ascii "--lemmas")
     ∷ is_file (taken begun (ascii "one" ∷ ascii "--lemmas" ∷ F ∷ [])) F
     ∷ [])
     ≡ (false ∷ true ∷ false ∷ false ∷ true ∷ [])
-unfolding is_file is_lemmas taken take_word take_open take_job take_option take_marks take_asked take_lemmas take_file is_input
-    take_named take_plain job_of same is_option is_digit all_digits is_number value_after value up_to number_of
+unfolding is_file is_lemmas taken take_word take_open take_option take_marks take_asked take_lemmas take_file take_named take_plain job_of value_after value number_of
 lemmas_named = refl

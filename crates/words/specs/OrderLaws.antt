@@ -1,13 +1,13 @@
 -- Laws of orders: a fault stays, whatever words follow; no space is over the largest.
-use Rattle.std.specs.Prelude.{ℕ, ◌≤◌, ◌≡◌, Bool, cond, List, [], ◌∷◌, ◌++◌, eqb, ltb}
+use Rattle.std.specs.Prelude.{ℕ, ◌≤◌, ◌≡◌, Bool, cond, List, [], ◌∷◌, ◌++◌, eqb, ltb, Option, None, Some, Result, Ok, Err}
 use Rattle.std.proofs.Math.Path.{refl}
 use Rattle.std.proofs.Common.{ap, ◌∙◌, arith, ltb-false}
 use Rattle.std.proofs.Math.Bool.{true, false}
 use Rattle.text.specs.Ascii.{ascii}
 use Rattle.spelling.specs.Words.{same, is_option}
 use Rattle.spelling.specs.Numbers.{is_number, value, up_to, number_of}
-use Rattle.spelling.specs.declared.number.Number.{Number}
-use Rattle.spelling.specs.declared.number.Number.TheVariants.{Value, Over, Not}
+use Rattle.spelling.specs.declared.number.NumberFault.{NumberFault}
+use Rattle.spelling.specs.declared.number.NumberFault.TheVariants.{Over, Not}
 use Rattle.words.specs.declared.order.Job.{Job}
 use Rattle.words.specs.declared.order.Order.{Order}
 use Rattle.words.specs.Orders.{budget_most, space_most, begun, faulty, awaited, most_words, job_of, with_budget, with_space}
@@ -52,17 +52,15 @@ module _ (o : Order) (h : Fits o) where
   same_space : {p : Order} → p.space ≡ o.space → Fits p
   same_space e = record { fits = rw e h.fits }
 
-  budget_fits : (n : Number) → Fits (with_budget o n)
-  budget_fits (Value n) = same_space refl
-  budget_fits Over = same_space refl
-  budget_fits Not = same_space refl
+  budget_fits : (n : Result ℕ NumberFault) → Fits (with_budget o n)
+  budget_fits (Ok n) = same_space refl
+  budget_fits (Err e) = same_space refl
 
-  value_fits : (v : ℕ) (b : Bool) → ltb space_most v ≡ b → Fits (with_space o (cond b Over (Value v)))
+  value_fits : (v : ℕ) (b : Bool) → ltb space_most v ≡ b → Fits (with_space o (cond b (Err Over) (Ok v)))
   value_fits v true e = same_space refl
   value_fits v false e = record { fits = ltb-false space_most v e }
 
-  number_fits : (w : List ℕ) (b : Bool) → Fits (with_space o (cond b (up_to space_most (value w)) Not))
-  unfolding up_to
+  number_fits : (w : List ℕ) (b : Bool) → Fits (with_space o (cond b (up_to space_most (value w)) (Err Not)))
   number_fits w true = value_fits (value w) (ltb space_most (value w)) refl
   number_fits w false = same_space refl
 
@@ -90,9 +88,9 @@ module _ (o : Order) (h : Fits o) where
       either (is_option w) (same_space refl)
       (either (is_input w) (either o.input (same_space refl) (same_space refl)) (same_space refl))
 
-  job_fits : (j : Job) → Fits (take_job o j)
-  unfolding take_job
-  job_fits j = either (awaited j) (same_space refl) (same_space refl)
+  job_fits : (j : Option Job) → Fits (take_job o j)
+  job_fits None = same_space refl
+  job_fits (Some j) = same_space refl
 
   plain_fits : (w : List ℕ) → Fits (take_plain o w)
   unfolding take_plain

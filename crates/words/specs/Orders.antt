@@ -1,14 +1,14 @@
 -- The order that a command line gives: its words are taken one after another.
-use Rattle.std.specs.Prelude.{ℕ, Bool, true, false, ◌&&◌, cond, List, [], ◌∷◌, eqb, ltb}
+use Rattle.std.specs.Prelude.{ℕ, Bool, true, false, ◌&&◌, cond, List, [], ◌∷◌, eqb, ltb, Option, None, Some, Result, Ok, Err}
 use Rattle.text.specs.Ascii.{ascii}
 use Rattle.spelling.specs.Words.{same, is_option}
 use Rattle.spelling.specs.Numbers.{number_of}
-use Rattle.spelling.specs.declared.number.Number.{Number}
-use Rattle.spelling.specs.declared.number.Number.TheVariants.{Value, Over, Not}
+use Rattle.spelling.specs.declared.number.NumberFault.{NumberFault}
+use Rattle.spelling.specs.declared.number.NumberFault.TheVariants.{Over, Not}
 use Rattle.words.specs.declared.order.Job.{Job}
-use Rattle.words.specs.declared.order.Job.TheVariants.{Awaited, Check, Largest, One, List as Listing, Problem, Help, Version}
+use Rattle.words.specs.declared.order.Job.TheVariants.{Check, Largest, One, List as Listing, Problem, Help, Version}
 use Rattle.words.specs.declared.order.Fault.{Fault}
-use Rattle.words.specs.declared.order.Fault.TheVariants.{Nothing, Unknown, Superfluous, NotANumber, TooLarge, NoFile, NoJob, NoLemmas, NoLemmaFile, TwoInputs}
+use Rattle.words.specs.declared.order.Fault.TheVariants.{Unknown, Superfluous, NotANumber, TooLarge, NoFile, NoJob, NoLemmas, NoLemmaFile, TwoInputs}
 use Rattle.words.specs.declared.order.Order.{Order}
 
 -- the largest budget, and the largest space
@@ -20,64 +20,50 @@ space_most = 1048576
 
 -- the order before any word
 abbrev pub begun : Order
-begun = record { job = Awaited; named = 0; marks = false; budget = 1000000; space = 65536; awaiting = false; lemmas = false; input = false; fault = Nothing }
+begun = record { job = None; named = 0; marks = false; budget = 1000000; space = 65536; awaiting = false; lemmas = false; input = false; fault = None }
 
-abbrev pub faulty : Fault → Bool
-faulty Nothing = false
-faulty Unknown = true
-faulty Superfluous = true
-faulty NotANumber = true
-faulty TooLarge = true
-faulty NoFile = true
-faulty NoJob = true
-faulty NoLemmas = true
-faulty NoLemmaFile = true
-faulty TwoInputs = true
+abbrev pub faulty : Option Fault → Bool
+faulty None = false
+faulty (Some f) = true
 
 -- no word was read yet
-abbrev pub awaited : Job → Bool
-awaited Awaited = true
-awaited Check = false
-awaited Largest = false
-awaited One = false
-awaited Listing = false
-awaited Problem = false
-awaited Help = false
-awaited Version = false
+abbrev pub awaited : Option Job → Bool
+awaited None = true
+awaited (Some j) = false
 
 -- how many words a job takes: a file, a budget, a space
-abbrev pub most_words : Job → ℕ
-most_words Awaited = 0
-most_words Check = 1
-most_words Largest = 2
-most_words One = 2
-most_words Listing = 3
-most_words Problem = 1
-most_words Help = 0
-most_words Version = 0
+abbrev pub most_words : Option Job → ℕ
+most_words None = 0
+most_words (Some Check) = 1
+most_words (Some Largest) = 2
+most_words (Some One) = 2
+most_words (Some Listing) = 3
+most_words (Some Problem) = 1
+most_words (Some Help) = 0
+most_words (Some Version) = 0
 
 -- a job of circuits alone
-abbrev pub needs_lemmas : Job → Bool
-needs_lemmas Awaited = false
-needs_lemmas Check = false
-needs_lemmas Largest = false
-needs_lemmas One = false
-needs_lemmas Listing = false
-needs_lemmas Problem = true
-needs_lemmas Help = false
-needs_lemmas Version = false
+abbrev pub needs_lemmas : Option Job → Bool
+needs_lemmas None = false
+needs_lemmas (Some Check) = false
+needs_lemmas (Some Largest) = false
+needs_lemmas (Some One) = false
+needs_lemmas (Some Listing) = false
+needs_lemmas (Some Problem) = true
+needs_lemmas (Some Help) = false
+needs_lemmas (Some Version) = false
 
 -- which job a word names
-unfoldable pub job_of : List ℕ → Job
+unfoldable pub job_of : List ℕ → Option Job
 job_of w =
-    cond (same w (ascii "check")) Check
-    (cond (same w (ascii "largest")) Largest
-    (cond (same w (ascii "one")) One
-    (cond (same w (ascii "list")) Listing
-    (cond (same w (ascii "problem")) Problem
-    (cond (same w (ascii "--help")) Help
-    (cond (same w (ascii "--version")) Version
-    Awaited))))))
+    cond (same w (ascii "check")) (Some Check)
+    (cond (same w (ascii "largest")) (Some Largest)
+    (cond (same w (ascii "one")) (Some One)
+    (cond (same w (ascii "list")) (Some Listing)
+    (cond (same w (ascii "problem")) (Some Problem)
+    (cond (same w (ascii "--help")) (Some Help)
+    (cond (same w (ascii "--version")) (Some Version)
+    None))))))
 
 -- an order with a fault, with a job, with marks, with the lemma file's name awaited or given, with a word more that is the file's name, the
 -- budget or the space
@@ -92,13 +78,13 @@ with_fault o f =
       awaiting = o.awaiting;
       lemmas = o.lemmas;
       input = o.input;
-      fault = f;
+      fault = Some f;
     }
 
 abbrev pub with_job : Order → Job → Order
 with_job o j =
     record {
-      job = j;
+      job = Some j;
       named = o.named;
       marks = o.marks;
       budget = o.budget;
@@ -165,8 +151,12 @@ with_file o i =
       fault = o.fault;
     }
 
-abbrev pub with_budget : Order → Number → Order
-with_budget o (Value n) =
+abbrev pub number_fault : NumberFault → Fault
+number_fault Over = TooLarge
+number_fault Not = NotANumber
+
+abbrev pub with_budget : Order → Result ℕ NumberFault → Order
+with_budget o (Ok n) =
     record {
       job = o.job;
       named = 2;
@@ -178,11 +168,10 @@ with_budget o (Value n) =
       input = o.input;
       fault = o.fault;
     }
-with_budget o Over = with_fault o TooLarge
-with_budget o Not = with_fault o NotANumber
+with_budget o (Err e) = with_fault o (number_fault e)
 
-abbrev pub with_space : Order → Number → Order
-with_space o (Value n) =
+abbrev pub with_space : Order → Result ℕ NumberFault → Order
+with_space o (Ok n) =
     record {
       job = o.job;
       named = 3;
@@ -194,12 +183,12 @@ with_space o (Value n) =
       input = o.input;
       fault = o.fault;
     }
-with_space o Over = with_fault o TooLarge
-with_space o Not = with_fault o NotANumber
+with_space o (Err e) = with_fault o (number_fault e)
 
 -- The first word names the job.
-unfoldable pub take_job : Order → Job → Order
-take_job o j = cond (awaited j) (with_fault o Unknown) (with_job o j)
+abbrev pub take_job : Order → Option Job → Order
+take_job o None = with_fault o Unknown
+take_job o (Some j) = with_job o j
 
 -- `--marks` goes with every job that marks, `--lemmas` once with every job that has a file; no other word starts with two dashes.
 unfoldable pub take_marks : Order → Order
@@ -214,7 +203,7 @@ take_option o w =
     cond (same w (ascii "--marks")) (take_marks o) (cond (same w (ascii "--lemmas")) (take_asked o) (with_fault o Unknown))
 
 -- A dash is standard input, which only one file may be.
-unfoldable pub is_input : List ℕ → Bool
+abbrev pub is_input : List ℕ → Bool
 is_input w = same w (ascii "-")
 
 unfoldable pub take_file : Order → List ℕ → Order

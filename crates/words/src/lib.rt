@@ -4,5 +4,5 @@
 mod order;
 mod taking;
 
-pub use order::{Fault, Job, Order, begin, faulty};
+pub use order::{Fault, Job, Order, begin};
 pub use taking::{finish, is_file, is_input, is_lemmas, take};

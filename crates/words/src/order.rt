@@ -1,15 +1,14 @@
 // The order that a command line gives, and what each word may add to it.
 ghost use Rattle.std.specs.Prelude.{◌≡◌};
-ghost use Rattle.words.specs.Orders.{begun, faulty, awaited, most_words, needs_lemmas, take_job};
+ghost use Rattle.words.specs.Orders.{number_fault, begun, most_words, needs_lemmas, take_job};
 ghost use Rattle.words.specs.Orders.{with_fault, with_job, with_marks, with_awaiting, with_lemmas};
 ghost use Rattle.words.specs.Orders.{with_file, with_budget, with_space};
 
-use spelling::Number;
+use spelling::NumberFault;
 
-// What is to be done. Awaited: no word was read yet.
-#[derive(Clone, Copy)]
+// What is to be done.
+#[derive(Clone, Copy, PartialEq, Eq)]
 pub enum Job {
-    Awaited,
     Check,
     Largest,
     One,
@@ -20,9 +19,8 @@ pub enum Job {
 }
 
 // What is wrong with the words.
-#[derive(Clone, Copy)]
+#[derive(Clone, Copy, PartialEq, Eq)]
 pub enum Fault {
-    Nothing,
     Unknown,
     Superfluous,
     NotANumber,
@@ -34,12 +32,23 @@ pub enum Fault {
     TwoInputs,
 }
 
-// The order so far: the job, how many words were named for it (file, budget, space, in this order), whether marks alone are wanted, the
-// budget in decisions, the space in bytes, whether the next word names the lemma file, whether that is named, whether a file is standard
-// input, and the first fault.
+impl From<NumberFault> for Fault {
+    ghost from_gives = { λ e r. r ≡ number_fault e };
+
+    fn from(fault: NumberFault) -> Fault {
+        match fault {
+            NumberFault::Over => Fault::TooLarge,
+            NumberFault::Not => Fault::NotANumber,
+        }
+    }
+}
+
+// The order so far: the job, once a word named it, how many words were named for it (file, budget, space, in this order), whether marks
+// alone are wanted, the budget in decisions, the space in bytes, whether the next word names the lemma file, whether that is named, whether a
+// file is standard input, and the first fault. The flags stay two: what `take` promises, `take_word`, speaks of every order, both of them true too.
 #[derive(Clone, Copy)]
 pub struct Order {
-    pub job: Job,
+    pub job: Option<Job>,
     pub named: usize,
     pub marks: bool,
     pub budget: u32,
@@ -47,7 +56,7 @@ pub struct Order {
     pub awaiting: bool,
     pub lemmas: bool,
     pub input: bool,
-    pub fault: Fault,
+    pub fault: Option<Fault>,
 }
 
 // The largest budget, and the largest space.
@@ -62,7 +71,7 @@ pub fn begin() -> Order
     ensures { result ≡ begun }
 {
     Order {
-        job: Job::Awaited,
+        job: None,
         named: 0,
         marks: false,
         budget: 1000000,
@@ -70,109 +79,42 @@ pub fn begin() -> Order
         awaiting: false,
         lemmas: false,
         input: false,
-        fault: Fault::Nothing,
-    }
-}
-
-// Whether it is a fault.
-pub fn faulty(fault: Fault) -> bool
-    ensures { result ≡ faulty fault }
-{
-    match fault {
-        Fault::Nothing => false,
-        Fault::Unknown => true,
-        Fault::Superfluous => true,
-        Fault::NotANumber => true,
-        Fault::TooLarge => true,
-        Fault::NoFile => true,
-        Fault::NoJob => true,
-        Fault::NoLemmas => true,
-        Fault::NoLemmaFile => true,
-        Fault::TwoInputs => true,
-    }
-}
-
-// Whether no word was read yet.
-pub fn awaited(job: Job) -> bool
-    ensures { result ≡ awaited job }
-{
-    match job {
-        Job::Awaited => true,
-        Job::Check => false,
-        Job::Largest => false,
-        Job::One => false,
-        Job::List => false,
-        Job::Problem => false,
-        Job::Help => false,
-        Job::Version => false,
+        fault: None,
     }
 }
 
 // How many words a job takes: a file, a budget, a space.
-pub fn most_words(job: Job) -> usize
+pub fn most_words(job: Option<Job>) -> usize
     ensures { result ≡ most_words job }
 {
     match job {
-        Job::Awaited => 0,
-        Job::Check => 1,
-        Job::Largest => 2,
-        Job::One => 2,
-        Job::List => 3,
-        Job::Problem => 1,
-        Job::Help => 0,
-        Job::Version => 0,
+        None | Some(Job::Help | Job::Version) => 0,
+        Some(Job::Check | Job::Problem) => 1,
+        Some(Job::Largest | Job::One) => 2,
+        Some(Job::List) => 3,
     }
 }
 
 // Whether a job is of circuits alone.
-pub fn needs_lemmas(job: Job) -> bool
+pub fn needs_lemmas(job: Option<Job>) -> bool
     ensures { result ≡ needs_lemmas job }
 {
-    match job {
-        Job::Awaited => false,
-        Job::Check => false,
-        Job::Largest => false,
-        Job::One => false,
-        Job::List => false,
-        Job::Problem => true,
-        Job::Help => false,
-        Job::Version => false,
-    }
+    matches!(job, Some(Job::Problem))
 }
 
 impl Order {
-    pub fn with_fault(self, fault: Fault) -> Order
+    pub fn with_fault(mut self, fault: Fault) -> Order
         ensures { result ≡ with_fault self fault }
     {
-        let job = self.job;
-        Order {
-            job,
-            named: self.named,
-            marks: self.marks,
-            budget: self.budget,
-            space: self.space,
-            awaiting: self.awaiting,
-            lemmas: self.lemmas,
-            input: self.input,
-            fault,
-        }
+        self.fault = Some(fault);
+        self
     }
 
-    pub fn with_job(self, job: Job) -> Order
+    pub fn with_job(mut self, job: Job) -> Order
         ensures { result ≡ with_job self job }
     {
-        let fault = self.fault;
-        Order {
-            job,
-            named: self.named,
-            marks: self.marks,
-            budget: self.budget,
-            space: self.space,
-            awaiting: self.awaiting,
-            lemmas: self.lemmas,
-            input: self.input,
-            fault,
-        }
+        self.job = Some(job);
+        self
     }
 
     pub fn with_marks(mut self) -> Order
@@ -206,41 +148,39 @@ impl Order {
         self
     }
 
-    pub fn with_budget(mut self, n: Number) -> Order
+    pub fn with_budget(mut self, n: Result<u32, NumberFault>) -> Order
         ensures { result ≡ with_budget self n }
     {
         match n {
-            Number::Value(v) => {
+            Ok(budget) => {
                 self.named = 2;
-                self.budget = v;
+                self.budget = budget;
                 self
             }
-            Number::Over => self.with_fault(Fault::TooLarge),
-            Number::Not => self.with_fault(Fault::NotANumber),
+            Err(fault) => self.with_fault(Fault::from(fault)),
         }
     }
 
-    pub fn with_space(mut self, n: Number) -> Order
+    pub fn with_space(mut self, n: Result<u32, NumberFault>) -> Order
         ensures { result ≡ with_space self n }
     {
         match n {
-            Number::Value(v) => {
+            Ok(space) => {
                 self.named = 3;
-                self.space = v as usize;
+                self.space = space as usize;
                 self
             }
-            Number::Over => self.with_fault(Fault::TooLarge),
-            Number::Not => self.with_fault(Fault::NotANumber),
+            Err(fault) => self.with_fault(Fault::from(fault)),
         }
     }
 
     // The first word names the job.
-    pub fn take_job(self, job: Job) -> Order
+    pub fn take_job(self, job: Option<Job>) -> Order
         ensures { result ≡ take_job self job }
     {
-        if awaited(job) {
-            return self.with_fault(Fault::Unknown);
+        match job {
+            None => self.with_fault(Fault::Unknown),
+            Some(job) => self.with_job(job),
         }
-        self.with_job(job)
     }
 }

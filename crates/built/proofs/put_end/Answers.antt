@@ -1,12 +1,11 @@
 -- `built::put_end` meets its contract: a head with no body. Assumes nothing.
-use Rattle.built.specs.Problem.{end_length, end_written}
-use native.Mathlib.Omega.{arith}
+use mathlib.Core.Path.{sym}
+use Rattle.records.specs.Puts.{puts_is, room_is}
+use Rattle.built.specs.Problem.{end_is, head_room}
 use Rattle.built.proofs.put_end.Goals as goal
 
 pub put_head-requires-clause-at_in_bounds : goal.put_head-requires-clause-at_in_bounds
-put_head-requires-clause-at_in_bounds c =
-    let start = c in
-    omega (arith, start.requires, end_length)
+put_head-requires-clause-at_in_bounds c = head_room 0 6 (room_is (sym end_is) c.requires)
 
 pub returns : goal.returns
-returns c = end_written _ _ _ c.put_head.ensures
+returns c = puts_is end_is c.put_head.ensures

@@ -5,13 +5,13 @@ use lib.ListN.{length}
 use Rattle.meaning.specs.LemmaText.{read_lemma_text}
 use Rattle.meaning.specs.Filed.{clause_records}
 use Rattle.lemma_text.specs.Rest.{lemmas_of, lemmas_on}
-use Rattle.lemma_text.specs.Written.{Left}
+use Rattle.records.specs.Puts.{Left}
 use Rattle.lemma_text.specs.Recorded.{Fine, records_on}
 use Rattle.lemma_text.proofs.write_lemmas.Given as goal
 
-abbrev pub invariant-loop-from : goal.invariant-loop-from
-invariant-loop-from l = Fine (lemmas_on l.latches l.text l.from) × (l.from ≤ length l.text)
-    × Left (clause_records 5 (lemmas_of (read_lemma_text l.latches l.text))) l.at l.initial.out (records_on l.latches l.text l.from) l.to l.out
+abbrev pub invariant-loop-line : goal.invariant-loop-line
+invariant-loop-line l = Fine (lemmas_on l.latches l.text l.from) × (l.from ≤ length l.text)
+    × Left (clause_records 5 (lemmas_of (read_lemma_text l.latches l.text))) l.initial.out (records_on l.latches l.text l.from) l.out
 
-abbrev pub decreases-loop-from : goal.decreases-loop-from
-decreases-loop-from l = length l.text - l.from
+abbrev pub decreases-loop-line : goal.decreases-loop-line
+decreases-loop-line l = length l.text - l.from

@@ -1,23 +1,16 @@
 -- `check` reports what `read_problem` answers.
-use mathlib.Core.Path.{◌≡◌, subst}
-use Rattle.meaning.specs.File.{read}
-use Rattle.problem.specs.declared.Checked.{Checked}
-use Rattle.problem.specs.Answers.{reading_of_answer}
+use mathlib.Core.Path.{◌∙◌}
+use Rattle.meaning.specs.Calls.{refusal}
+use Rattle.problem.specs.Refusals.{number_of}
 use Rattle.problem.specs.Checks.{accepted_report, refused_report}
 use Rattle.problem.proofs.check.Goals as goal
 
-pub returns-in-Accepted : goal.returns-in-Accepted
-returns-in-Accepted c =
-    let file = c.args.file.now in
-    let answered = c.read_problem-read.ensures.0 in
-    let told = c.in-Accepted in
-    accepted_report file told.p
-    (subst (λ (a : Checked). reading_of_answer file a ≡ read file) told.is answered)
+pub returns-in-Ok : goal.returns-in-Ok
+returns-in-Ok c =
+    let zeros = c.default.ensures in
+    rw (zeros.0, zeros.1.0, zeros.1.1.0, zeros.1.1.1.0) (accepted_report c.args.file.now c.in-Ok.p c.in-Ok.ensures.0)
 
-pub returns-in-Refused : goal.returns-in-Refused
-returns-in-Refused c =
-    let file = c.args.file.now in
-    let answered = c.read_problem-read.ensures.0 in
-    let told = c.in-Refused in
-    refused_report file told.number told.place
-    (subst (λ (a : Checked). reading_of_answer file a ≡ read file) told.is answered)
+pub returns-in-Err : goal.returns-in-Err
+unfolding refusal
+returns-in-Err c =
+    c.from.ensures ∙ refused_report c.args.file.now (number_of c.in-Err.r.rule) c.in-Err.r.place c.in-Err.ensures.0

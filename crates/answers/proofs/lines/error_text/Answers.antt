@@ -1,5 +1,4 @@
--- `answers::lines::error_text` makes the definition's test. Assumes nothing.
-use borrow.Author.Tests.{eq-eqb, ne_eqb}
+use borrow.Author.Tests.{eq-eqb}
 use Rattle.text.specs.PageLaws.{holds_none}
 use Rattle.answers.specs.Lines.{error_text}
 use Rattle.answers.proofs.lines.error_text.Goals as goal
@@ -7,7 +6,3 @@ use Rattle.answers.proofs.lines.error_text.Goals as goal
 pub returns-then-r-eq0 : goal.returns-then-r-eq0
 unfolding error_text
 returns-then-r-eq0 c = rw (eq-eqb _ 0 c.if-r-eq0.true) (holds_none _)
-
-pub returns : goal.returns
-unfolding error_text
-returns c = rw (ne_eqb _ 0 c.if-r-eq0.false) c.refusal_line.ensures

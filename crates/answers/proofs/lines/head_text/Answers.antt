@@ -6,28 +6,24 @@ use Rattle.text.specs.PageLaws.{holds_none}
 use Rattle.answers.specs.Lines.{has_head, head_text}
 use Rattle.answers.specs.LineLaws.{kept_is}
 use Rattle.answers.proofs.lines.head_text.Goals as goal
+use Rattle.answers.proofs.lines.head_text.Goals.{then-marks-via-then-marks, then-marks-via-else-marks+then-not-has_head}
 
 pub returns-then-marks : goal.returns-then-marks
 unfolding head_text
-returns-then-marks c = rw c.if-marks.true (holds_none _)
-
-pub returns-then-not-has_head : goal.returns-then-not-has_head
-unfolding head_text
-returns-then-not-has_head c =
-    let a = c.args in
-    let h = c.has_head.ensures ∙ ap (λ (b : Bool). has_head b a.r.number) c.is_list.ensures in
-    rw (c.if-marks.false, sym h ∙ c.if-not-has_head.true) (holds_none _)
+returns-then-marks c =
+    elim c.then-marks.branch [
+      | then-marks-via-then-marks w ↦ rw w.if-marks.true (holds_none _)
+      | then-marks-via-else-marks+then-not-has_head w ↦
+          let a = c.args in
+          let h = w.has_head.ensures ∙ ap (λ (b : Bool). has_head b a.r.number) w.is_list.ensures in
+          rw (w.if-marks.false, sym h ∙ w.if-not-has_head.true) (holds_none _)
+    ]
 
 pub returns : goal.returns
 unfolding head_text
 returns c =
-    let n = c in
-    let s = n in
-    let k = s in
-    let e = k in
-    let u = e in
-    let a = u.args in
-    let h = e.has_head.ensures ∙ ap (λ (b : Bool). has_head b a.r.number) e.is_list.ensures in
+    let a = c.args in
+    let h = c.has_head.ensures ∙ ap (λ (b : Bool). has_head b a.r.number) c.is_list.ensures in
     let kept =
-    kept_is k.k_of-k.result s.row_end-end.result n.count_marks.result a.lent.now n.count_marks.ensures (omega (arith, s.row_end-end.ensures)) in
-    rw (u.if-marks.false, sym h ∙ e.if-not-has_head.false, sym k.k_of-k.ensures, sym kept) c.answer_line.ensures
+    kept_is c.k_of-k.result c.row_end-end.result c.count_marks.result a.lent.now c.count_marks.ensures (omega (arith, c.row_end-end.ensures)) in
+    rw (c.if-marks.false, sym h ∙ c.if-not-has_head.false, sym c.k_of-k.ensures, sym kept) c.answer_line.ensures

@@ -1,11 +1,7 @@
 -- `branches::nodes::lowest` meets its contract: no position before d is in the one and not in the other. Assumes nothing.
-use Prim.Native.Nat.{◌≤◌, ◌-◌}
 use Rattle.sets.specs.Asks.{marks_at}
 use Rattle.branches.specs.ListingSets.{LowestLeft}
 use Rattle.branches.proofs.nodes.lowest.Given as goal
 
 abbrev pub invariant-loop-d : goal.invariant-loop-d
-invariant-loop-d l = (l.d ≤ l.k) × LowestLeft (marks_at l.k l.a) (marks_at l.k l.s) l.d
-
-abbrev pub decreases-loop-d : goal.decreases-loop-d
-decreases-loop-d l = l.k - l.d
+invariant-loop-d l = LowestLeft (marks_at l.of.problem.k l.a) (marks_at l.of.problem.k l.s) l.d

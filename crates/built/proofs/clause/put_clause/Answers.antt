@@ -1,38 +1,32 @@
--- `built::clause::put_clause` meets its contract: an edge that is constantly true drops the clause. Assumes nothing.
-use mathlib.Core.Path.{sym, ◌∙◌}
-use Rattle.built.specs.Clause.{dropped_first, dropped_second, dropped_third, kept}
-use Rattle.built.specs.Wrote.{wrote_none, wrote_as, room_as}
+use Rattle.std.specs.Prelude.{◌*◌}
+use Rattle.std.proofs.Math.Path.{sym, ap, ◌∙◌}
+use Rattle.records.specs.Puts.{puts_none, puts_is, room_is, left_is, left_none, left_room, left_more}
+use Rattle.built.specs.Clause.{any_is, dropped, kept, bytes_length, bytes_none, bytes_next, head_room, after_head}
 use Rattle.built.proofs.clause.put_clause.Goals as goal
 
-pub returns-then-is_true : goal.returns-then-is_true
-returns-then-is_true c = wrote_none _ _ _ (dropped_first _ _ _ _ (sym c.is_true.ensures ∙ c.if-is_true.true))
+pub returns-then-has_true : goal.returns-then-has_true
+returns-then-has_true c =
+    puts_is (sym (dropped _ _ (sym (any_is _) ∙ sym c.has_true.ensures ∙ c.if-has_true.true))) (puts_none _)
 
-pub returns-then-is_true-2 : goal.returns-then-is_true-2
-returns-then-is_true-2 c = wrote_none _ _ _ (dropped_second _ _ _ _ (sym c.is_true-2.ensures ∙ c.if-is_true-2.true))
+pub put_head-requires-clause-at_in_bounds : goal.put_head-requires-clause-at_in_bounds
+put_head-requires-clause-at_in_bounds c =
+    let same = kept c.args.kind c.args.edges.now (sym (any_is _) ∙ sym c.has_true.ensures ∙ c.if-has_true.false) in
+    head_room _ _ (room_is (sym same) c.requires.edges_in_bounds) _ (ap (λ k. 2 * k) c.named.ensures ∙ bytes_length _)
 
-pub returns-then-is_true-3 : goal.returns-then-is_true-3
-returns-then-is_true-3 c = wrote_none _ _ _ (dropped_third _ _ _ _ (sym c.is_true-3.ensures ∙ c.if-is_true-3.true))
+pub loop-e-init : goal.loop-e-init
+loop-e-init c =
+    let same = kept c.args.kind c.args.edges.now (sym (any_is _) ∙ sym c.has_true.ensures ∙ c.if-has_true.false) in
+    after_head _ _ (room_is (sym same) c.requires.edges_in_bounds) _ (ap (λ k. 2 * k) c.named.ensures ∙ bytes_length _)
+    c.put_head.ensures
 
-pub put_record-requires-clause-c_in_bounds : goal.put_record-requires-clause-c_in_bounds
-put_record-requires-clause-c_in_bounds c =
-    let after_if2 = c in
-    let after_is_true2 = after_if2 in
-    let after_if1 = after_is_true2 in
-    let after_is_true = after_if1 in
-    let start = after_is_true in
-    let same = kept _ _ _ _ (sym after_is_true.is_true.ensures ∙ after_if1.if-is_true.false)
-    (sym after_is_true2.is_true-2.ensures ∙ after_if2.if-is_true-2.false) (sym c.is_true-3.ensures ∙ c.if-is_true-3.false) in
-    let room = room_as _ start.args.out.now (sym same) start.requires.c_in_bounds in
-    room
+pub put_edge-requires : goal.put_edge-requires
+put_edge-requires c = left_room _ _ (left_is c.loop-e.invariant (bytes_next _ _ _ c.loop-e-test.true c.e-item.is))
+
+pub loop-e-preserved : goal.loop-e-preserved
+loop-e-preserved c =
+    left_more _ _ (left_is c.loop-e.invariant (bytes_next _ _ _ c.loop-e-test.true c.e-item.is)) c.put_edge.ensures
 
 pub returns : goal.returns
 returns c =
-    let after_if3 = c in
-    let after_is_true3 = after_if3 in
-    let after_if2 = after_is_true3 in
-    let after_is_true2 = after_if2 in
-    let after_if1 = after_is_true2 in
-    let after_is_true = after_if1 in
-    wrote_as
-    (kept _ _ _ _ (sym after_is_true.is_true.ensures ∙ after_if1.if-is_true.false) (sym after_is_true2.is_true-2.ensures ∙ after_if2.if-is_true-2.false) (sym after_is_true3.is_true-3.ensures ∙ after_if3.if-is_true-3.false))
-    c.put_record.ensures
+    let same = kept c.args.kind c.args.edges.now (sym (any_is _) ∙ sym c.has_true.ensures ∙ c.if-has_true.false) in
+    puts_is same (left_none c.loop-e.invariant (bytes_none _ _ c.loop-e-test.false))

@@ -1,15 +1,15 @@
 -- `built::clause::put_edge` meets its contract: a constant writes nothing. Assumes nothing.
-use native.Mathlib.Omega.{arith}
-use Rattle.built.specs.Clause.{constant_bytes, named_size, wrote_literal}
-use Rattle.built.specs.Wrote.{wrote_none}
+use Rattle.records.specs.Puts.{puts_none}
+use Rattle.built.specs.Clause.{edge_bytes, named_room}
 use Rattle.built.proofs.clause.put_edge.Goals as goal
 
-pub returns-then-variable-eq0 : goal.returns-then-variable-eq0
-returns-then-variable-eq0 c = wrote_none _ _ _ (constant_bytes _ (omega arith))
+pub returns-in-Constant : goal.returns-in-Constant
+unfolding edge_bytes
+returns-in-Constant c = rw c.in-Constant.is (puts_none _)
 
 pub put_literal-requires-clause-at_in_bounds : goal.put_literal-requires-clause-at_in_bounds
-put_literal-requires-clause-at_in_bounds c =
-    omega (arith, named_size c.args.e (omega arith))
+put_literal-requires-clause-at_in_bounds c = named_room _ (rw c.in-Named.is at c.requires)
 
-pub returns : goal.returns
-returns c = wrote_literal _ _ (omega arith) _ _ c.put_literal.ensures
+pub returns-in-Named : goal.returns-in-Named
+unfolding edge_bytes
+returns-in-Named c = rw c.in-Named.is c.put_literal.ensures

@@ -1,34 +1,35 @@
-use Rattle.built.specs.Wrote.{wrote_as, room_as}
-use Rattle.built.specs.Sections.{start_line, line_here, starts_are_parts}
-use Rattle.built.specs.Turns.{turn_start, turn_room, turn_next, turn_end}
-use Rattle.clause_count.specs.Rows.{cursor_start, cursor_next}
 use mathlib.Core.Path.{sym}
+use borrow.Author.Rules.{rules}
 use native.Mathlib.Omega.{arith}
+use Rattle.std.specs.Prelude.{◌<◌}
+use Rattle.meaning.specs.CircuitText.{numbers_at}
+use Rattle.meaning.specs.Filed.{clause_records}
+use Rattle.records.specs.Puts.{Puts, HasRoom, puts_is, room_is}
+use Rattle.built.specs.Sections.{start_line, line_part, line_here, starts_are_parts}
 use Rattle.built.proofs.latches.put_starts.Goals as goal
 
-pub loop-i-init : goal.loop-i-init
-loop-i-init c =
-    let start = c in
-    let first = cursor_start _ _ _ _ start.requires.small.whole.latches.inside start.requires.small.whole.latches.rows in
-    let room = room_as _ start.args.out.now (starts_are_parts start.args.text.now start.args.c) start.requires.c_in_bounds in
-    (first, turn_start _ _ _ _ room)
-
-pub put_start-to-requires-clause-line_in_bounds : goal.put_start-to-requires-clause-line_in_bounds
-put_start-to-requires-clause-line_in_bounds c =
-    let start = c in
-    let turn = c.loop-i.invariant in
-    let room = room_as _ c.loop-i.out (line_here _ start_line _ _ _ _ turn.0.place) (turn_room turn.1 (omega arith)) in
-    room
-
-pub loop-i-preserved : goal.loop-i-preserved
-loop-i-preserved c =
-    let after_put_start = c in
-    let turn_at = after_put_start in
-    let turn = turn_at.loop-i.invariant in
-    let wrote = wrote_as (sym (line_here _ start_line _ _ _ _ turn.0.place)) after_put_start.put_start-to.ensures in
-    (cursor_next turn.0 (omega arith) _ c.next_line-line.ensures.0, turn_next turn.1 (omega arith) wrote)
+pub put_lines-requires : goal.put_lines-requires
+put_lines-requires c =
+    let a = c.args in
+    record {
+      width = 2;
+      part = line_part 2 (start_line) a.text.now a.c.latches.at;
+      rows = c.requires.small.whole.latches;
+      room = room_is (starts_are_parts a.text.now a.c) c.requires.c_in_bounds;
+      may = λ line i out less place row room.
+          let few : i < 96 = omega (arith, less, c.requires.small.latches) in
+          let here : HasRoom (clause_records 2 (start_line i (numbers_at a.text.now line))) out.now = room_is (line_here _ (start_line) _ _ _ _ place) room in
+          search (rules, few, row, here);
+      writes = λ line i out u after place gave.
+          let wrote : Puts (clause_records 2 (start_line i (numbers_at a.text.now line))) out.now after.now = search rules in
+          puts_is (sym (line_here _ (start_line) _ _ _ _ place)) wrote;
+    }
 
 pub returns : goal.returns
 returns c =
-    let start = c in
-    wrote_as (sym (starts_are_parts start.args.text.now start.args.c)) (turn_end c.loop-i.invariant.1 (omega arith))
+    let a = c.args in
+    puts_is (sym (starts_are_parts a.text.now a.c))
+    (c.put_lines.ensures _ (room_is (starts_are_parts a.text.now a.c) c.requires.c_in_bounds)
+    (λ line i out u after place gave.
+    let wrote : Puts (clause_records 2 (start_line i (numbers_at a.text.now line))) out.now after.now = search rules in
+    puts_is (sym (line_here _ (start_line) _ _ _ _ place)) wrote))

@@ -1,34 +1,33 @@
-use Rattle.built.specs.Wrote.{wrote_as, room_as}
-use Rattle.built.specs.Sections.{one_line, line_here, ones_are_parts}
-use Rattle.built.specs.Turns.{turn_start, turn_room, turn_next, turn_end}
-use Rattle.clause_count.specs.Rows.{cursor_start, cursor_next}
 use mathlib.Core.Path.{sym}
-use native.Mathlib.Omega.{arith}
+use borrow.Author.Rules.{rules}
+use Rattle.meaning.specs.CircuitText.{numbers_at}
+use Rattle.meaning.specs.Filed.{clause_records}
+use Rattle.records.specs.Puts.{Puts, HasRoom, puts_is, room_is}
+use Rattle.sections.specs.Whole.{circuit_at}
+use Rattle.built.specs.Sections.{one_line, line_part, line_here, ones_are_parts}
 use Rattle.built.proofs.ones.put_ones.Goals as goal
 
-pub loop-i-init : goal.loop-i-init
-loop-i-init c =
-    let start = c in
-    let first = cursor_start _ _ _ _ start.requires.rows_at.inside start.requires.rows_at.rows in
-    let room = room_as _ start.args.out.now (ones_are_parts start.args.text.now start.args.c start.args.kind start.args.s) start.requires.s_in_bounds in
-    (first, turn_start _ _ _ _ room)
-
-pub put_one-to-requires-clause-line_in_bounds : goal.put_one-to-requires-clause-line_in_bounds
-put_one-to-requires-clause-line_in_bounds c =
-    let start = c in
-    let turn = c.loop-i.invariant in
-    let room = room_as _ c.loop-i.out (line_here _ (one_line _) _ _ _ _ turn.0.place) (turn_room turn.1 (omega arith)) in
-    room
-
-pub loop-i-preserved : goal.loop-i-preserved
-loop-i-preserved c =
-    let after_put_one = c in
-    let turn_at = after_put_one in
-    let turn = turn_at.loop-i.invariant in
-    let wrote = wrote_as (sym (line_here _ (one_line _) _ _ _ _ turn.0.place)) after_put_one.put_one-to.ensures in
-    (cursor_next turn.0 (omega arith) _ c.next_line-line.ensures.0, turn_next turn.1 (omega arith) wrote)
+pub put_lines-requires : goal.put_lines-requires
+put_lines-requires c =
+    let a = c.args in
+    record {
+      width = 1;
+      part = line_part a.kind (one_line (circuit_at a.text.now a.c)) a.text.now a.s.at;
+      rows = c.requires.rows_at;
+      room = room_is (ones_are_parts a.text.now a.c a.kind a.s) c.requires.s_in_bounds;
+      may = λ line i out less place row room.
+          let here : HasRoom (clause_records a.kind (one_line (circuit_at a.text.now a.c) i (numbers_at a.text.now line))) out.now = room_is (line_here _ (one_line (circuit_at a.text.now a.c)) _ _ _ _ place) room in
+          search (rules, c.requires.small, c.requires.kind_bound, row, here);
+      writes = λ line i out u after place gave.
+          let wrote : Puts (clause_records a.kind (one_line (circuit_at a.text.now a.c) i (numbers_at a.text.now line))) out.now after.now = search rules in
+          puts_is (sym (line_here _ (one_line (circuit_at a.text.now a.c)) _ _ _ _ place)) wrote;
+    }
 
 pub returns : goal.returns
 returns c =
-    let start = c in
-    wrote_as (sym (ones_are_parts start.args.text.now start.args.c start.args.kind start.args.s)) (turn_end c.loop-i.invariant.1 (omega arith))
+    let a = c.args in
+    puts_is (sym (ones_are_parts a.text.now a.c a.kind a.s))
+    (c.put_lines.ensures _ (room_is (ones_are_parts a.text.now a.c a.kind a.s) c.requires.s_in_bounds)
+    (λ line i out u after place gave.
+    let wrote : Puts (clause_records a.kind (one_line (circuit_at a.text.now a.c) i (numbers_at a.text.now line))) out.now after.now = search rules in
+    puts_is (sym (line_here _ (one_line (circuit_at a.text.now a.c)) _ _ _ _ place)) wrote))

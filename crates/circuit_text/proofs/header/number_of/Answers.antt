@@ -14,4 +14,4 @@ nth-requires-clause-j_in_bounds c =
     omega (arith, numbers_count _ _ p.text_value_2, c.if-j-width.true)
 
 pub returns : goal.returns
-returns c = let p = c.requires in number_left_out _ _ _ p.in_bounds p.text_value_2 c.if-j-width.false
+returns c = number_left_out _ _ _ c.requires.text_value_2 c.if-j-width.false _ c.no_number.ensures

@@ -1,9 +1,6 @@
-use Prim.Native.Nat.{◌-◌, ◌≤◌}
+use Prim.Native.Nat.{◌≤◌}
 use Rattle.circuit_text.specs.Header.{Tried}
 use Rattle.circuit_text.proofs.header.width_of.Given as goal
 
 abbrev pub invariant-loop-width : goal.invariant-loop-width
-invariant-loop-width l = (5 ≤ l.width) × (l.width ≤ 10) × Tried l.text l.width
-
-abbrev pub decreases-loop-width : goal.decreases-loop-width
-decreases-loop-width l = 10 - l.width
+invariant-loop-width l = (5 ≤ l.width) × Tried l.text l.width

@@ -1,4 +1,3 @@
-use Prim.Native.Nat.{◌-◌}
 use mathlib.Core.Path.{◌≡◌}
 use mathlib.Core.Bool.{true}
 use Rattle.lines.specs.Numbers.{capped}
@@ -6,8 +5,5 @@ use Rattle.uses.specs.Passing.{Passing}
 use Rattle.circuit_text.specs.Sums.{counted}
 use Rattle.circuit_text.proofs.properties.total.Given as goal
 
-abbrev pub invariant-loop-i : goal.invariant-loop-i
-invariant-loop-i l = (l.all ≡ capped (counted l.text l.initial.p l.i)) × Passing (λ l. true) l.text 1 l.initial.p l.count l.p l.i
-
-abbrev pub decreases-loop-i : goal.decreases-loop-i
-decreases-loop-i l = l.count - l.i
+abbrev pub invariant-loop : goal.invariant-loop
+invariant-loop l = (l.all ≡ capped (counted l.text l.fn.counts.at l.counter)) × Passing (λ l. true) l.text 1 l.fn.counts.at l.fn.counts.count l.p l.counter

@@ -1,8 +1,19 @@
-use Rattle.circuits.specs.Asked.{refused_check, check_asked}
+use mathlib.Core.Path.{refl, ◌∙◌, ◌≡◌}
+use mathlib.Core.List.{[]}
+use borrow.Author.Rules.{rules}
+use Rattle.std.proofs.Math.Path.{ap}
+use Rattle.problem.specs.Answers.{report_of}
+use Rattle.meaning.specs.Calls.{Outcome, checked, check_call}
+use Rattle.meaning.specs.Circuits.{circuit_check_call}
+use Rattle.circuits.specs.Asked.{check_does}
 use Rattle.circuits.proofs.asked.check.Goals as goal
 
-pub returns-in-Refused : goal.returns-in-Refused
-returns-in-Refused c = refused_check _ _ _ _ c.file_of-made.ensures _ _ c.in-Refused.is _ c.refused.ensures
-
-pub returns-in-Written : goal.returns-in-Written
-returns-in-Written c = check_asked _ _ _ _ c.file_of-made.ensures _ c.in-Written.is _ c.check.ensures
+pub returns : goal.returns
+unfolding circuit_check_call
+returns c =
+    ap (λ (o : Outcome). o.report)
+    (c.asked.ensures checked
+    (λ out len w file before r after file_is lent_is gave.
+    let told : report_of r ≡ (check_call file.now 0 []).report = search rules in
+    let stays : after.now ≡ before.now = search rules in
+    check_does _ _ _ _ w _ _ _ (told ∙ rw file_is refl) (stays ∙ lent_is)))

@@ -1,10 +1,15 @@
+use mathlib.Core.Path.{refl, ◌∙◌, ◌≡◌}
+use borrow.Author.Rules.{rules}
+use Rattle.jobs.specs.Outcome.{outcome_of}
+use Rattle.meaning.specs.Calls.{one_call, one_job}
 use Rattle.meaning.specs.Circuits.{circuit_one_call}
-use Rattle.circuits.specs.Asked.{refused_call, one_asked}
+use Rattle.circuits.specs.Asked.{one_asked}
 use Rattle.circuits.proofs.asked.mark_one.Goals as goal
 
-pub returns-in-Refused : goal.returns-in-Refused
+pub returns : goal.returns
 unfolding circuit_one_call
-returns-in-Refused c = refused_call _ _ _ _ c.file_of-made.ensures _ _ c.in-Refused.is _ c.refused.ensures _ _
-
-pub returns-in-Written : goal.returns-in-Written
-returns-in-Written c = one_asked _ _ _ _ c.file_of-made.ensures _ c.in-Written.is _ _ _ c.mark_one.ensures
+returns c =
+    c.asked.ensures (one_job c.args.budget)
+    (λ out len w file before r after file_is lent_is gave.
+    let gives : outcome_of r after.now ≡ one_call file.now c.args.budget before.now = search rules in
+    one_asked _ _ _ _ w _ _ _ (gives ∙ rw (file_is, lent_is) refl))

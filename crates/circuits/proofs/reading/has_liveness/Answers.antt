@@ -1,12 +1,13 @@
-use mathlib.Core.Path.{sym}
-use borrow.Author.Tests.{lt-ltb, le-ltb}
+use native.Mathlib.Omega.{arith}
+use Rattle.std.proofs.lemmas.Grind.{common_steps}
+use Rattle.std.proofs.lemmas.Bool.Decides.{nat_tests}
 use Rattle.circuits.specs.Limits.{liveness}
 use Rattle.circuits.proofs.reading.has_liveness.Goals as goal
 
-pub returns-then-justice-gt0 : goal.returns-then-justice-gt0
+pub returns-then-p-gt0 : goal.returns-then-p-gt0
 unfolding liveness
-returns-then-justice-gt0 c = sym (rw (lt-ltb _ _ c.if-justice-gt0.true))
+returns-then-p-gt0 c = grind (arith, nat_tests, common_steps)
 
-pub returns : goal.returns
+pub returns-else-p-gt0 : goal.returns-else-p-gt0
 unfolding liveness
-returns c = sym (rw (le-ltb _ _ c.if-justice-gt0.false))
+returns-else-p-gt0 c = grind (arith, nat_tests, common_steps)

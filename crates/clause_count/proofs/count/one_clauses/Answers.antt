@@ -5,4 +5,4 @@ use Rattle.clause_count.specs.Lengths.{one_counted}
 use Rattle.clause_count.proofs.count.one_clauses.Goals as goal
 
 pub returns : goal.returns
-returns c = (c.unless.ensures.0 ∙ one_counted _ _ c.value_at-l.ensures, omega (arith, c.unless.ensures.1))
+returns c = (c.unless.ensures.0 ∙ one_counted _ _ c.value_at-l.ensures, omega arith)

@@ -1,5 +1,6 @@
 -- `fault_texts::texts::put_fault` meets its contract: by the fault. Assumes nothing.
-use Rattle.text.specs.PageLaws.{appends_both}
+use Rattle.text.specs.Filled.{filled}
+use Rattle.text.specs.Pages.{puts_both}
 use Rattle.fault_texts.specs.FaultTexts.{fault_text}
 use Rattle.fault_texts.proofs.texts.put_fault.Goals as goal
 
@@ -26,12 +27,11 @@ returns-in-LengthOut c = rw c.in-LengthOut.is c.put_filled-in-LengthOut.ensures
 pub returns-in-CountsOut : goal.returns-in-CountsOut
 unfolding fault_text
 returns-in-CountsOut c =
-    let e = c.in-CountsOut.is in
-    rw e (appends_both c.put_filled-next.ensures c.put_filled-in-CountsOut.ensures)
+    rw c.in-CountsOut.is (puts_both c.put_filled-in-CountsOut.ensures c.put_filled-in-CountsOut-2.ensures)
 
 pub returns-in-LiteralZero : goal.returns-in-LiteralZero
-unfolding fault_text
-returns-in-LiteralZero c = rw c.in-LiteralZero.is c.put_filled-in-LiteralZero.ensures
+unfolding fault_text filled
+returns-in-LiteralZero c = rw c.in-LiteralZero.is c.put_all.ensures
 
 pub returns-in-NoState : goal.returns-in-NoState
 unfolding fault_text
@@ -44,8 +44,7 @@ returns-in-NextValue c = rw c.in-NextValue.is c.put_filled-in-NextValue.ensures
 pub returns-in-NoVariable : goal.returns-in-NoVariable
 unfolding fault_text
 returns-in-NoVariable c =
-    let e = c.in-NoVariable.is in
-    rw e (appends_both c.put_filled-next-in-NoVariable.ensures c.put_filled-in-NoVariable.ensures)
+    rw c.in-NoVariable.is (puts_both c.put_filled-in-NoVariable.ensures c.put_filled-in-NoVariable-2.ensures)
 
 pub returns-in-ManyClauses : goal.returns-in-ManyClauses
 unfolding fault_text
@@ -60,5 +59,5 @@ unfolding fault_text
 returns-in-Behind c = rw c.in-Behind.is c.put_filled-in-Behind.ensures
 
 pub returns-in-Unknown : goal.returns-in-Unknown
-unfolding fault_text
-returns-in-Unknown c = rw c.in-Unknown.is c.put_filled-in-Unknown.ensures
+unfolding fault_text filled
+returns-in-Unknown c = rw c.in-Unknown.is c.put_all-in-Unknown.ensures

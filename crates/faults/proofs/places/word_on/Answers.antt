@@ -6,6 +6,3 @@ use Rattle.faults.proofs.places.word_on.Goals as goal
 
 pub returns-then-file-at : goal.returns-then-file-at
 returns-then-file-at c = let a = c.args in (two_past a.file.now (a.at + a.by) (omega arith), omega arith)
-
-pub returns-then-file-at-2 : goal.returns-then-file-at-2
-returns-then-file-at-2 c = let a = c.args in (two_past a.file.now (a.at + a.by) (omega arith), omega arith)

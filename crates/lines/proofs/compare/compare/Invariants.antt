@@ -1,9 +1,6 @@
-use Prim.Native.Nat.{◌-◌, ◌≤◌}
+use Prim.Native.Nat.{◌≤◌}
 use Rattle.lines.specs.Sums.{ComparedTo}
 use Rattle.lines.proofs.compare.compare.Given as goal
 
 abbrev pub invariant-loop-p : goal.invariant-loop-p
-invariant-loop-p l = ComparedTo l.text l.a l.b l.c l.m l.carry l.p l.over l.seen × (l.over ≤ 9) × (l.p ≤ l.width)
-
-abbrev pub decreases-loop-p : goal.decreases-loop-p
-decreases-loop-p l = l.width - l.p
+invariant-loop-p l = ComparedTo l.a l.b l.c l.m l.carry l.p l.over l.seen × (l.over ≤ 9) × (l.p ≤ l.width)

@@ -1,43 +1,45 @@
-use mathlib.Core.Path.{sym, ◌∙◌}
+use Prim.Native.Nat.{ℕ, suc, ◌+◌, ◌-◌}
+use mathlib.Core.Path.{◌≡◌, refl, sym, ap, ◌∙◌}
 use native.Mathlib.Omega.{arith}
-use Rattle.lines.specs.PastLaws.{past_cut, past_empty, past_last, past_not_last, past_space, past_no_space}
+use Rattle.lines.specs.Past.{line_past}
 use Rattle.lines.proofs.line.line_past.Goals as goal
 
-pub returns-then-text-end : goal.returns-then-text-end
-returns-then-text-end c =
-    let x = c.number_at-x.ensures in
-    (sym (c.loop-at.invariant.0 ∙ past_cut _ _ _ x.0 x.1 x.2 _ (omega arith)), omega arith)
+pub loop-init : goal.loop-init
+loop-init c =
+    let all : c.args.width ≡ suc (c.args.width - 1) = omega arith in
+    (ap (λ (k : ℕ). line_past k c.args.text.now c.args.at) all, c.requires.at_in_bounds, c.requires.le_width)
 
-pub returns-then-end-p : goal.returns-then-end-p
-returns-then-end-p c =
-    let x = c.number_at-x.ensures in
-    (sym (c.loop-at.invariant.0 ∙ past_empty _ _ _ x.0 x.1 x.2 (omega arith) _ c.if-end-p.true), omega arith)
+pub past_number-requires : goal.past_number-requires
+past_number-requires c = c.loop.invariant.1
 
-pub returns-then-b-eq10 : goal.returns-then-b-eq10
-returns-then-b-eq10 c =
-    let x = c.number_at-x.ensures in
-    let h = c.loop-at.invariant in (
-      sym (h.0 ∙ past_last _ _ _ x.0 x.1 x.2 (omega arith) _ c.if-left-eq1.true c.if-end-p.false c.if-b-eq10.true),
+pub returns-in_err-p : goal.returns-in_err-p
+returns-in_err-p c =
+    let h = c.loop.invariant in
+    let k = c.args.width - c.loop.counter - 1 in
+    let more : c.args.width - c.loop.counter ≡ suc k = omega arith in
+    rw c.from_residual.ensures
+    (c.in_err-p.ensures.spaced refl k ∙ ap (λ (j : ℕ). line_past (suc j) c.args.text.now c.loop.p) (sym more) ∙ sym h.0, tt)
+
+pub loop-preserved : goal.loop-preserved
+loop-preserved c =
+    let h = c.loop.invariant in
+    let k = c.args.width - c.loop.counter - 1 in
+    let more : c.args.width - c.loop.counter ≡ suc k = omega arith in
+    let next : k ≡ c.args.width - (c.loop.counter + 1) = omega arith in (
+      h.0 ∙ ap (λ (j : ℕ). line_past (suc j) c.args.text.now c.loop.p) more
+          ∙ sym (c.in_ok-p.ensures.spaced refl k)
+          ∙ ap (λ (j : ℕ). line_past (suc j) c.args.text.now c.in_ok-p.p) next,
+      c.in_ok-p.ensures.inside,
       omega arith,
     )
 
-pub returns-then-left-eq1 : goal.returns-then-left-eq1
-returns-then-left-eq1 c =
-    let x = c.number_at-x.ensures in
-    let h = c.loop-at.invariant in
-    (sym (h.0 ∙ past_not_last _ _ _ x.0 x.1 x.2 (omega arith) _ c.if-left-eq1.true c.if-b-eq10.false), omega arith)
+pub past_number-requires-2 : goal.past_number-requires-2
+past_number-requires-2 c = c.loop.invariant.1
 
-pub returns-then-b-ne32 : goal.returns-then-b-ne32
-returns-then-b-ne32 c =
-    let x = c.number_at-x.ensures in
-    let h = c.loop-at.invariant in
-    (sym (h.0 ∙ past_no_space _ _ _ x.0 x.1 x.2 (omega arith) _ h.2 c.if-left-eq1.false c.if-b-ne32.true), omega arith)
-
-pub loop-at-preserved : goal.loop-at-preserved
-loop-at-preserved c =
-    let x = c.number_at-x.ensures in
-    let h = c.loop-at.invariant in (
-      h.0 ∙ past_space _ _ _ x.0 x.1 x.2 (omega arith) _ h.2 c.if-left-eq1.false c.if-end-p.false c.if-b-ne32.false,
-      omega arith,
-      omega arith,
+pub returns : goal.returns
+returns c =
+    let h = c.loop.invariant in
+    let last : c.args.width - c.loop.counter ≡ 0 = omega arith in (
+      c.past_number-2.ensures.closed refl ∙ ap (λ (j : ℕ). line_past (suc j) c.args.text.now c.loop.p) (sym last) ∙ sym h.0,
+      c.past_number-2.ensures.inside,
     )

@@ -1,6 +1,6 @@
 -- `lines::number::grown` meets its contract, by the definition's test. Assumes nothing.
 use borrow.Author.Tests.{le-leb, lt-leb}
-use Rattle.lines.specs.Numbers.{grown}
+use Rattle.lines.specs.Digits.{grown}
 use Rattle.lines.proofs.number.grown.Goals as goal
 
 pub returns-then-value : goal.returns-then-value

@@ -1,29 +1,30 @@
-use Prim.Native.Nat.{ℕ, ◌≤◌}
-use mathlib.Core.Path.{refl, ap, subst, subst⁻¹, ◌∙◌}
+use mathlib.Core.Path.{sym, ap, subst⁻¹, ◌∙◌}
 use native.Mathlib.Omega.{arith}
-use Rattle.lines.specs.Numbers.{Begun, begun, begun_more, begun_whole, span, worth, grown, a_digit}
+use Prim.Native.Nat.{ℕ, ◌+◌, ◌-◌}
+use Rattle.std.specs.Prelude.{◌≡◌, length, take, drop}
+use Rattle.std.proofs.lemmas.List.{drop-take}
+use Rattle.lines.specs.Digits.{Begun, begun, begun_more, begun_whole, digit_past}
 use Rattle.lines.proofs.number.number_at.Goals as goal
 
-pub loop-at-init : goal.loop-at-init
-loop-at-init c = begun _ _ c.requires
+pub loop-end-init : goal.loop-end-init
+loop-end-init c = begun _ _ c.requires
 
-pub returns-then-digit-gt9 : goal.returns-then-digit-gt9
-unfolding span worth
-returns-then-digit-gt9 c =
-    let h = c.loop-at.invariant in (
-      record { rises = h.rises; inside = h.inside; digits = h.digits; value = h.valued },
-      refl,
-      begun_whole h (omega (arith, c.digit_at-digit.ensures.0, c.if-digit-gt9.true)),
-    )
+pub loop-end-preserved : goal.loop-end-preserved
+loop-end-preserved c =
+    subst⁻¹ (Begun _ _ _) c.grown-value.ensures (begun_more _ c.loop-end.invariant (sym c.in-Some.ensures.0) c.in-Some.ensures.1)
 
-pub loop-at-smaller : goal.loop-at-smaller
-loop-at-smaller c =
-    let is = c.digit_at-digit.ensures.0 in
-    let small = subst (λ (d : ℕ). d ≤ 9) is c.if-digit-gt9.false in
-    omega (arith, (a_digit _ _ small).0)
+pub returns-in_default-clause-digits : goal.returns-in_default-clause-digits
+returns-in_default-clause-digits c =
+    let h = c.loop-end.invariant in
+    let whole : c.args.at + (c.loop-end.end - c.args.at) ≡ c.loop-end.end = omega (arith, h.rises) in
+    sym (drop-take c.args.at (c.loop-end.end - c.args.at) c.args.text.now)
+    ∙ ap (λ (k : ℕ). drop c.args.at (take k c.args.text.now)) whole
+    ∙ begun_whole h (sym c.in_default.ensures.0)
 
-pub loop-at-preserved : goal.loop-at-preserved
-loop-at-preserved c =
-    let is = c.digit_at-digit.ensures.0 in
-    let small = subst (λ (d : ℕ). d ≤ 9) is c.if-digit-gt9.false in
-    subst⁻¹ (Begun _ _ _) (c.grown-value.ensures ∙ ap (grown _) is) (begun_more c.loop-at.invariant small)
+pub returns-clause-digits : goal.returns-clause-digits
+returns-clause-digits c =
+    let h = c.loop-end.invariant in
+    let whole : c.args.at + (length c.args.text.now - c.args.at) ≡ c.loop-end.end = omega (arith, h.rises, h.inside) in
+    sym (drop-take c.args.at (length c.args.text.now - c.args.at) c.args.text.now)
+    ∙ ap (λ (k : ℕ). drop c.args.at (take k c.args.text.now)) whole
+    ∙ begun_whole h (digit_past _ _ c.loop-end-test.false)

@@ -22,9 +22,9 @@ returns-then-v-eq1 c =
     let start = worth in
     sym (status_true (entries start.args.values.now) failed (literal_of start.args.l) [] (sym worth.worth-v.ensures ∙ ap entry c.if-v-eq1.true))
 
-pub returns : goal.returns
+pub returns-else-v-eq1 : goal.returns-else-v-eq1
 unfolding status status_from
-returns c =
+returns-else-v-eq1 c =
     let worth = c in
     let start = worth in
     sym (status_false (entries start.args.values.now) failed (literal_of start.args.l) []

@@ -1,4 +1,5 @@
 -- `scan` meets its contract. The loop's invariant: the status of the whole clause is that of the literals left, after what was seen.
+use Prim.Native.Nat.{◌+◌, ◌-◌, ◌*◌}
 use mathlib.Core.Path.{◌≡◌}
 use Rattle.meaning.specs.File.{literals}
 use Rattle.passes.specs.Sweep.{status, status_from}
@@ -7,11 +8,10 @@ use Rattle.passes.specs.Forms.{entries}
 use Rattle.passes.specs.Places.{Literals}
 use Rattle.passes.proofs.clauses.scan.Given as goal
 
-abbrev pub invariant-loop-left : goal.invariant-loop-left
-invariant-loop-left l = Literals l.file l.at l.left
-    × (status (entries l.values) (literals l.file l.start l.count)
-    ≡ status_from (entries l.values) (seen_places l.file l.places l.first) (literals l.file l.at l.left))
-    × FirstInside l.file l.places l.first
-
-abbrev pub decreases-loop-left : goal.decreases-loop-left
-decreases-loop-left l = l.left
+abbrev pub invariant-loop-i : goal.invariant-loop-i
+invariant-loop-i l = record {
+  left : Literals l.file (l.start + 2 * l.i) (l.count - l.i);
+  so_far : status (entries l.values) (literals l.file l.start l.count)
+      ≡ status_from (entries l.values) (seen_places l.file l.places l.first) (literals l.file (l.start + 2 * l.i) (l.count - l.i));
+  first : FirstInside l.file l.places l.first;
+}

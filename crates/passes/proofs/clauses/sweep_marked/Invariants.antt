@@ -10,9 +10,8 @@ use Rattle.passes.proofs.TurnLaws.{lemmas_from}
 use Rattle.passes.proofs.clauses.sweep_marked.Given as goal
 
 abbrev pub invariant-loop-i : goal.invariant-loop-i
-invariant-loop-i l = Records l.file l.at (l.count - l.i)
-    × (sweep (at_marks l.on (section l.file l.start l.count)) (tally_at l.initial.tally (entries l.initial.values))
-    ≡ sweep (lemmas_from l.file l.on l.at l.count l.i) (tally_at l.tally (entries l.values)))
-
-abbrev pub decreases-loop-i : goal.decreases-loop-i
-decreases-loop-i l = l.count - l.i
+invariant-loop-i l = record {
+  left : Records l.file l.at (l.count - l.i);
+  so_far : sweep (at_marks l.on (section l.file l.start l.count)) (tally_at l.initial.tally (entries l.initial.values))
+      ≡ sweep (lemmas_from l.file l.on l.at l.count l.i) (tally_at l.tally (entries l.values));
+}

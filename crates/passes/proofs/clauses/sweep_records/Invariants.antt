@@ -1,4 +1,5 @@
 -- `sweep_records` meets its contract. The loop's invariant: the whole pass comes to the pass over the records left, from where it stands.
+use Prim.Native.Nat.{◌-◌}
 use mathlib.Core.Path.{◌≡◌}
 use Rattle.format.specs.Section.{section}
 use Rattle.passes.specs.Sweep.{sweep}
@@ -6,10 +7,9 @@ use Rattle.passes.specs.Forms.{entries, tally_at}
 use Rattle.passes.specs.Places.{Records}
 use Rattle.passes.proofs.clauses.sweep_records.Given as goal
 
-abbrev pub invariant-loop-left : goal.invariant-loop-left
-invariant-loop-left l = Records l.file l.at l.left
-    × (sweep (section l.file l.start l.count) (tally_at l.initial.tally (entries l.initial.values))
-    ≡ sweep (section l.file l.at l.left) (tally_at l.tally (entries l.values)))
-
-abbrev pub decreases-loop-left : goal.decreases-loop-left
-decreases-loop-left l = l.left
+abbrev pub invariant-loop-i : goal.invariant-loop-i
+invariant-loop-i l = record {
+  left : Records l.file l.at (l.count - l.i);
+  so_far : sweep (section l.file l.start l.count) (tally_at l.initial.tally (entries l.initial.values))
+      ≡ sweep (section l.file l.at (l.count - l.i)) (tally_at l.tally (entries l.values));
+}

@@ -11,8 +11,8 @@ use Rattle.rows.specs.RowLaws.{row_back}
 use Rattle.rows.specs.ListingProgress.{row_full, row_put}
 use Rattle.rows.proofs.found.put_row.Goals as goal
 
-pub returns-then-rows-at : goal.returns-then-rows-at
-returns-then-rows-at c = λ budget h. record { is = sym (row_full _ budget _ _ _ h _ c.if-rows-at.true); sound = tt }
+pub returns-then-rows-start : goal.returns-then-rows-start
+returns-then-rows-start c = λ budget h. record { is = sym (row_full _ budget _ _ _ h _ c.if-rows-start.true); sound = tt }
 
 pub returns : goal.returns
 returns c =
@@ -20,8 +20,8 @@ returns c =
     λ budget h.
     record {
       is =
-          ap₂ (λ (n : ℕ) (l : List ℕ). going n s.args.used l) (add-one s.args.r)
-          (row_back (s.args.r * s.args.k) (marks_at s.args.k s.args.s) s.args.rows.now _ s.requires.k_in_bounds c.write_row.ensures)
-          ∙ sym (row_put _ budget _ _ _ h _ c.if-rows-at.false);
-      sound = (h, omega (arith, ap (λ (n : ℕ). n * s.args.k) (add-one s.args.r), suc-mul s.args.r s.args.k, c.if-rows-at.false));
+          ap₂ (λ (n : ℕ) (l : List ℕ). going n s.args.at.used l) (add-one s.args.at.rows)
+          (row_back (s.args.at.rows * s.args.k) (marks_at s.args.k s.args.s) s.args.rows.now _ s.requires.k_in_bounds c.write_row.ensures)
+          ∙ sym (row_put _ budget _ _ _ h _ c.if-rows-start.false);
+      sound = (h, omega (arith, ap (λ (n : ℕ). n * s.args.k) (add-one s.args.at.rows), suc-mul s.args.at.rows s.args.k, c.if-rows-start.false));
     }

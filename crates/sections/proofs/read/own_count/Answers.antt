@@ -6,6 +6,6 @@ pub returns-then-defines : goal.returns-then-defines
 unfolding own_count
 returns-then-defines c = sym (rw c.if-defines.true)
 
-pub returns : goal.returns
+pub returns-else-defines : goal.returns-else-defines
 unfolding own_count
-returns c = sym (rw c.if-defines.false)
+returns-else-defines c = sym (rw c.if-defines.false)

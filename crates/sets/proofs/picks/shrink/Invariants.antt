@@ -1,11 +1,7 @@
 -- `sets::picks::shrink` meets its contract: the positions before q are done. Assumes nothing.
-use Prim.Native.Nat.{◌≤◌, ◌-◌}
-use Rattle.sets.specs.Asks.{marks_at, asks}
+use Rattle.sets.specs.Asks.{marks_at, asks_of}
 use Rattle.sets.specs.Shrinking.{ShrunkUpto}
 use Rattle.sets.proofs.picks.shrink.Given as goal
 
 abbrev pub invariant-loop-q : goal.invariant-loop-q
-invariant-loop-q l = (l.q ≤ l.k) × ShrunkUpto (asks l.file l.p) l.p.k l.left (marks_at l.p.k l.s) l.q l.r
-
-abbrev pub decreases-loop-q : goal.decreases-loop-q
-decreases-loop-q l = l.k - l.q
+invariant-loop-q l = ShrunkUpto (asks_of l.of) l.of.problem.k l.left (marks_at l.of.problem.k l.s) l.q l.r

@@ -1,11 +1,9 @@
 -- `sets::rounds::rounds` meets its contract: what is left to do is the rounds of the set at hand. Assumes nothing.
-use Prim.Native.Nat.{◌≤◌}
-use Rattle.sets.specs.Asks.{marks_at, asks}
+use Prim.Native.Nat.{◌≤◌, ◌-◌}
+use Rattle.sets.specs.Asks.{marks_at, asks_of}
 use Rattle.sets.specs.Keeping.{RoundsLeft}
 use Rattle.sets.proofs.rounds.rounds.Given as goal
 
-abbrev pub invariant-loop-fuel : goal.invariant-loop-fuel
-invariant-loop-fuel l = RoundsLeft (asks l.file l.p) (marks_at l.p.k l.initial.set) l.used l.fuel (marks_at l.p.k l.set) × (l.used ≤ l.left)
-
-abbrev pub decreases-loop-fuel : goal.decreases-loop-fuel
-decreases-loop-fuel l = l.fuel
+abbrev pub invariant-loop : goal.invariant-loop
+invariant-loop l =
+    RoundsLeft (asks_of l.of) (marks_at l.of.problem.k l.initial.set) l.used (l.fuel - l.counter) (marks_at l.of.problem.k l.set) × (l.used ≤ l.left)

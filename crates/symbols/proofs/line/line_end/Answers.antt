@@ -1,4 +1,5 @@
-use mathlib.Core.Path.{ap, ◌∙◌}
+use mathlib.Core.Path.{◌≡◌, ap, subst, ◌∙◌}
+use Rattle.symbols.specs.Symbols.{LineTo}
 use lib.ListN.{length}
 use native.Mathlib.Omega.{arith}
 use Rattle.lines.specs.Past.{line_none, line_past_end, next_byte}
@@ -14,4 +15,7 @@ pub loop-p-preserved : goal.loop-p-preserved
 loop-p-preserved c = let h = c.loop-p.invariant in (h.0 ∙ next_byte _ _ (omega arith) c.if-text-p-eq10.false, omega arith)
 
 pub returns : goal.returns
-returns c = let h = c.loop-p.invariant in ends_here _ _ _ h.0 (ap length (line_past_end _ _ (omega arith))) h.1
+returns c =
+    let h = c.loop-p.invariant in
+    let all : c.loop-p.p ≡ length c.args.text.now = omega arith in
+    subst (LineTo _ _) all (ends_here _ _ _ h.0 (ap length (line_past_end _ _ (omega arith))) h.1)

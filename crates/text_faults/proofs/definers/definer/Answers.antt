@@ -18,15 +18,15 @@ pub returns-then-same_variable : goal.returns-then-same_variable
 unfolding first_number worth
 returns-then-same_variable c =
     let t = c.args.text.now in
-    walk_found t _ c.args.from c.args.to c.loop-p.p c.loop-p.invariant c.loop-p-test.true c.requires.to_in_bounds c.same_variable.result
-    (c.same_variable.ensures ∙ ap (λ (l : List ℕ). eqb (var (worth t c.args.x)) (var (decimal l))) c.number_at-y.ensures.2) c.if-same_variable.true
+    walk_found t _ c.args.from c.args.to c.loop-p.p c.loop-p.invariant c.loop-p-test.true c.requires c.same_variable.result
+    (c.same_variable.ensures ∙ ap (λ (l : List ℕ). eqb (var (worth c.args.x.now)) (var (decimal l))) c.number_at-y.ensures.digits) c.if-same_variable.true
 
 pub loop-p-preserved : goal.loop-p-preserved
 unfolding first_number worth
 loop-p-preserved c =
     let t = c.args.text.now in
-    walk_on t _ c.args.from c.args.to c.loop-p.p c.loop-p.invariant c.loop-p-test.true c.requires.to_in_bounds c.same_variable.result
-    (c.same_variable.ensures ∙ ap (λ (l : List ℕ). eqb (var (worth t c.args.x)) (var (decimal l))) c.number_at-y.ensures.2) c.if-same_variable.false
+    walk_on t _ c.args.from c.args.to c.loop-p.p c.loop-p.invariant c.loop-p-test.true c.requires c.same_variable.result
+    (c.same_variable.ensures ∙ ap (λ (l : List ℕ). eqb (var (worth c.args.x.now)) (var (decimal l))) c.number_at-y.ensures.digits) c.if-same_variable.false
     _ c.after_line-p.ensures.0 c.after_line-p.ensures.2
 
 pub returns : goal.returns

@@ -7,7 +7,7 @@ use Rattle.text_faults.specs.Definers.{Walked}
 use Rattle.text_faults.proofs.definers.definer.Given as goal
 
 abbrev pub invariant-loop-p : goal.invariant-loop-p
-invariant-loop-p l = Walked l.text (var (worth l.text l.x)) l.from l.to l.p
+invariant-loop-p l = Walked l.text (var (worth l.x)) l.from l.to l.p
 
 abbrev pub decreases-loop-p : goal.decreases-loop-p
 decreases-loop-p l = length l.text - l.p

@@ -5,8 +5,5 @@ use lib.ListN.{length}
 use Rattle.text_faults.specs.Places.{skip}
 use Rattle.text_faults.proofs.places.skip.Given as goal
 
-abbrev pub invariant-loop-p : goal.invariant-loop-p
-invariant-loop-p l = (skip l.count l.text l.at ≡ skip l.left l.text l.p) × (l.p ≤ length l.text)
-
-abbrev pub decreases-loop-p : goal.decreases-loop-p
-decreases-loop-p l = length l.text - l.p
+abbrev pub invariant-loop-done : goal.invariant-loop-done
+invariant-loop-done l = (skip l.count l.text l.at ≡ skip (l.count - l.done) l.text l.p) × (l.p ≤ length l.text)

@@ -6,8 +6,6 @@ use Rattle.lines.specs.Numbers.{huge, capped}
 use Rattle.text_faults.specs.Sizes.{first_sum}
 use Rattle.text_faults.proofs.sizes.first_sum.Given as goal
 
-abbrev pub invariant-loop-p : goal.invariant-loop-p
-invariant-loop-p l = (capped (l.sum + first_sum l.left l.text l.p) ≡ capped (first_sum l.count l.text l.at)) × (l.p ≤ length l.text) × (l.sum ≤ huge)
-
-abbrev pub decreases-loop-p : goal.decreases-loop-p
-decreases-loop-p l = length l.text - l.p
+abbrev pub invariant-loop-done : goal.invariant-loop-done
+invariant-loop-done l =
+    (capped (l.sum + first_sum (l.count - l.done) l.text l.p) ≡ capped (first_sum l.count l.text l.at)) × (l.p ≤ length l.text) × (l.sum ≤ huge)

@@ -1,20 +1,19 @@
 -- `told::answers::answer_line` meets its contract: by the job. Assumes nothing.
-use Rattle.text.specs.PageLaws.{from_start}
+use Rattle.std.proofs.Common.{rules}
+use Rattle.problem.specs.Answers.{report_of}
+use Rattle.text.specs.Pages.{Puts, puts_out}
 use Rattle.told.specs.Answers.{answer_line}
 use Rattle.told.proofs.answers.answer_line.Goals as goal
+use Rattle.told.proofs.answers.answer_line.Goals.{in-Check, in-Largest, in-One, in-List}
 
-pub returns-in-Check : goal.returns-in-Check
+pub returns : goal.returns
 unfolding answer_line
-returns-in-Check c = rw c.in-Check.is (from_start c.put_filled.ensures)
-
-pub returns-in-Largest : goal.returns-in-Largest
-unfolding answer_line
-returns-in-Largest c = rw c.in-Largest.is (from_start c.put_filled-in-Largest.ensures)
-
-pub returns-in-One : goal.returns-in-One
-unfolding answer_line
-returns-in-One c = rw c.in-One.is (from_start c.put_filled-in-One.ensures)
-
-pub returns-in-List : goal.returns-in-List
-unfolding answer_line
-returns-in-List c = rw c.in-List.is c.list_line.ensures
+returns c =
+    let wrote : Puts (answer_line c.args.job (report_of c.args.r) c.args.k c.args.kept) c.new-page.result c.match-job.page =
+    elim c.match-job.branch [
+      | in-Check w ↦ rw (w.page-is, w.in-Check.is) w.put_filled.ensures
+      | in-Largest w ↦ rw (w.page-is, w.in-Largest.is) w.put_filled-in-Largest.ensures
+      | in-One w ↦ rw (w.page-is, w.in-One.is) w.put_filled-in-One.ensures
+      | in-List w ↦ rw (w.page-is, w.in-List.is) w.put_list_line.ensures
+    ] in
+    puts_out c.new-page.ensures wrote (search (rules, wrote.lent, c.new-page.ensures.lent))

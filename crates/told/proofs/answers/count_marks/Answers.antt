@@ -1,19 +1,10 @@
-use Prim.Native.Nat.{◌<◌}
-use native.Mathlib.Omega.{arith}
-use lib.ListN.{length}
-use Rattle.told.specs.AnswerLaws.{is_marked, not_marked, none_left}
+-- `told::answers::count_marks` meets its contract: the chain counts the marks that are 1. Assumes nothing.
+use Rattle.std.proofs.Common.{rules, ◌∙◌, ◌≡◌}
+use Rattle.std.specs.Prelude.{count_by, ◌==◌}
+use Rattle.told.specs.AnswerLaws.{counted}
 use Rattle.told.proofs.answers.count_marks.Goals as goal
-use Rattle.told.proofs.answers.count_marks.Goals.{then-marks-i-eq1, else-marks-i-eq1}
-
-pub loop-i-preserved : goal.loop-i-preserved
-loop-i-preserved c =
-    let l = c.loop-i in
-    let marks = c.args.marks.now in
-    let more : l.i < length marks = omega arith in
-    elim c.if-marks-i-eq1.branch [
-      | then-marks-i-eq1 w ↦ (omega arith, omega arith, omega (arith, is_marked marks l.i more w.if-marks-i-eq1.true))
-      | else-marks-i-eq1 w ↦ (omega arith, omega arith, omega (arith, not_marked marks l.i more w.if-marks-i-eq1.false))
-    ]
 
 pub returns : goal.returns
-returns c = omega (arith, none_left c.args.marks.now c.loop-i.i (omega arith))
+returns c =
+    let chain : c.count.result ≡ count_by (λ mark. mark == 1) c.args.marks.now = search rules in
+    chain ∙ counted c.args.marks.now

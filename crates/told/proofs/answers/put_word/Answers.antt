@@ -2,7 +2,7 @@
 use Rattle.std.proofs.Common.{arith, sym, ◌≡◌}
 use Rattle.std.proofs.lemmas.Grind.{common_steps}
 use Rattle.text.specs.Ascii.{ascii}
-use Rattle.text.specs.PageLaws.{appends_is}
+use Rattle.text.specs.Pages.{puts_is}
 use Rattle.told.specs.Answers.{word}
 use Rattle.told.proofs.answers.put_word.Goals as goal
 
@@ -26,4 +26,4 @@ pub returns-in_default : goal.returns-in_default
 unfolding word
 returns-in_default c =
     let e : word c.args.number ≡ ascii "refused" = grind (arith, common_steps) in
-    appends_is (sym e) c.put_all-in_default.ensures
+    puts_is (sym e) c.put_all-in_default.ensures

@@ -1,5 +1,4 @@
--- `told::refusals::larger` meets its contract: none, one that can be ten times as large, or not. Assumes nothing.
-use native.Mathlib.Omega.{arith}
+-- `told::refusals::larger` meets its contract: none, or the smaller of ten times as large and the largest. Assumes nothing.
 use borrow.Author.Tests.{eq-eqb, ne_eqb}
 use Rattle.told.specs.Refusals.{larger}
 use Rattle.told.proofs.refusals.larger.Goals as goal
@@ -8,10 +7,6 @@ pub returns-then-budget-eq0 : goal.returns-then-budget-eq0
 unfolding larger
 returns-then-budget-eq0 c = rw (eq-eqb c.args.budget 0 c.if-budget-eq0.true)
 
-pub returns-then-budget-le429496729 : goal.returns-then-budget-le429496729
-unfolding larger
-returns-then-budget-le429496729 c = rw (ne_eqb c.args.budget 0 c.if-budget-eq0.false) (omega arith)
-
 pub returns : goal.returns
 unfolding larger
-returns c = rw (ne_eqb c.args.budget 0 c.if-budget-eq0.false) (omega arith)
+returns c = rw (ne_eqb c.args.budget 0 c.if-budget-eq0.false) c.min.ensures

@@ -3,7 +3,7 @@ use Rattle.std.proofs.Common.{arith, sym, ◌≡◌}
 use Rattle.std.proofs.lemmas.Grind.{common_steps}
 use Rattle.text.specs.Ascii.{ascii}
 use Rattle.text.specs.Filled.{filled}
-use Rattle.text.specs.PageLaws.{appends_is}
+use Rattle.text.specs.Pages.{puts_is}
 use Rattle.told.specs.Refusals.{clause_place}
 use Rattle.told.proofs.refusals.put_clause_place.Goals as goal
 
@@ -27,4 +27,4 @@ pub returns-in_default : goal.returns-in_default
 unfolding clause_place
 returns-in_default c =
     let e : clause_place c.args.kind c.args.position ≡ filled (ascii ", in a record of kind #: ") c.args.kind 0 0 = grind (arith, common_steps) in
-    appends_is (sym e) c.put_filled-in_default.ensures
+    puts_is (sym e) c.put_filled-in_default.ensures

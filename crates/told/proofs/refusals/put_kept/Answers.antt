@@ -1,4 +1,5 @@
 -- `told::refusals::put_kept` meets its contract: by the job. Assumes nothing.
+use Rattle.std.proofs.Common.{inl, inr}
 use Rattle.told.specs.Refusals.{kept_text}
 use Rattle.told.proofs.refusals.put_kept.Goals as goal
 
@@ -8,12 +9,9 @@ returns-in-List c = rw c.in-List.is c.put_filled.ensures
 
 pub returns-in-Check : goal.returns-in-Check
 unfolding kept_text
-returns-in-Check c = rw c.in-Check.is c.put_all.ensures
-
-pub returns-in-Largest : goal.returns-in-Largest
-unfolding kept_text
-returns-in-Largest c = rw c.in-Largest.is c.put_all-in-Largest.ensures
-
-pub returns-in-One : goal.returns-in-One
-unfolding kept_text
-returns-in-One c = rw c.in-One.is c.put_all-in-One.ensures
+returns-in-Check c =
+    elim c.in-Check.is [
+      | inl e ↦ rw e c.put_all.ensures
+      | inr (inl e) ↦ rw e c.put_all.ensures
+      | inr (inr e) ↦ rw e c.put_all.ensures
+    ]

@@ -3,7 +3,7 @@ use Rattle.std.proofs.Common.{arith, sym, ◌≡◌}
 use Rattle.std.proofs.lemmas.Grind.{common_steps}
 use Rattle.problem.specs.Answers.{report_of}
 use Rattle.text.specs.Ascii.{ascii}
-use Rattle.text.specs.PageLaws.{appends_is, appends_both}
+use Rattle.text.specs.Pages.{puts_is, puts_both}
 use Rattle.told.specs.Refusals.{reason_text}
 use Rattle.told.proofs.refusals.put_reason.Goals as goal
 
@@ -15,22 +15,22 @@ pub returns-in-10 : goal.returns-in-10
 unfolding reason_text
 returns-in-10 c =
     rw c.in-10.is
-    (appends_both c.put_spent-next.ensures c.put_kept.ensures)
+    (puts_both c.put_spent.ensures c.put_kept.ensures)
 
 pub returns-in-11 : goal.returns-in-11
 unfolding reason_text
 returns-in-11 c =
     rw c.in-11.is
-    (appends_both c.put_filled-next.ensures c.put_all-in-11.ensures)
+    (puts_both c.put_filled.ensures c.put_all-in-11.ensures)
 
 pub returns-in-12 : goal.returns-in-12
 unfolding reason_text
 returns-in-12 c =
     rw c.in-12.is
-    (appends_both c.put_filled-next-in-12.ensures c.put_kept-in-12.ensures)
+    (puts_both c.put_filled-in-12.ensures c.put_kept-in-12.ensures)
 
 pub returns-in_default : goal.returns-in_default
 unfolding reason_text
 returns-in_default c =
     let e : reason_text c.args.job (report_of c.args.r) c.args.budget c.args.space ≡ ascii "no refusal that this program knows\n" = grind (arith, common_steps) in
-    appends_is (sym e) c.put_all-in_default.ensures
+    puts_is (sym e) c.put_all-in_default.ensures

@@ -1,22 +1,23 @@
 -- `told::refusals::refusal_line` meets its contract: its head, the clause around its place, and then what is wrong. Assumes nothing.
+use Rattle.std.proofs.Common.{rules}
 use borrow.Author.Tests.{lt-ltb, le-ltb}
-use Rattle.text.specs.PageLaws.{from_start, appends_both}
+use Rattle.problem.specs.Answers.{report_of}
+use Rattle.text.specs.Pages.{Puts, puts_both, puts_out}
 use Rattle.told.specs.Refusals.{refusal_line}
 use Rattle.told.proofs.refusals.refusal_line.Goals as goal
-
-pub returns-then-number-lt9 : goal.returns-then-number-lt9
-unfolding refusal_line
-returns-then-number-lt9 c =
-    let there = c in
-    let head = there in
-    let a = head.args in
-    rw (lt-ltb a.r.number 9 c.if-number-lt9.true, ← c.fault_of.ensures)
-    (from_start (appends_both head.put_head-head.ensures (appends_both there.put_where-at.ensures c.put_fault.ensures)))
+use Rattle.told.proofs.refusals.refusal_line.Goals.{then-r-lt9, else-r-lt9}
 
 pub returns : goal.returns
 unfolding refusal_line
 returns c =
-    let there = c in
-    let head = there in
-    rw (le-ltb head.args.r.number 9 c.if-number-lt9.false)
-    (from_start (appends_both head.put_head-head.ensures (appends_both there.put_where-at.ensures c.put_reason.ensures)))
+    let a = c.args in
+    let wrote : Puts (refusal_line a.job a.file.now (report_of a.r) a.budget a.space) c.new-page.result c.if-r-lt9.page =
+    elim c.if-r-lt9.branch [
+      | then-r-lt9 w ↦
+          rw (w.page-is, lt-ltb a.r.number 9 w.if-r-lt9.true, ← w.fault_of.ensures)
+          (puts_both c.put_head.ensures (puts_both c.put_where.ensures w.put_fault.ensures))
+      | else-r-lt9 w ↦
+          rw (w.page-is, le-ltb a.r.number 9 w.if-r-lt9.false)
+          (puts_both c.put_head.ensures (puts_both c.put_where.ensures w.put_reason.ensures))
+    ] in
+    puts_out c.new-page.ensures wrote (search (rules, wrote.lent, c.new-page.ensures.lent))

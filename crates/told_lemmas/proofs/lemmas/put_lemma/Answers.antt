@@ -5,7 +5,7 @@ use native.Mathlib.Omega.{arith}
 use lib.ListN.{length}
 use Rattle.meaning.specs.File.{two_at, literals}
 use Rattle.format.specs.Section.{next_record, clause_at}
-use Rattle.text.specs.PageLaws.{appends_is}
+use Rattle.text.specs.Pages.{puts_is}
 use Rattle.told_lemmas.specs.LemmaLaws.{inside_fewer, lemma_there, lemma_missing}
 use Rattle.told_lemmas.proofs.lemmas.put_lemma.Goals.{After-record_on-start}
 use Rattle.told_lemmas.proofs.lemmas.put_lemma.Goals as goal
@@ -20,7 +20,7 @@ fits c = c.record_on-start.ensures.1
 pub returns-then-p-position : goal.returns-then-p-position
 returns-then-p-position c =
     let a = c.args in
-    appends_is (lemma_missing a.file.now a.p a.position c.if-p-position.true) c.put_all.ensures
+    puts_is (lemma_missing a.file.now a.p a.position c.if-p-position.true) c.put_all.ensures
 
 pub record_on-start-requires : goal.record_on-start-requires
 record_on-start-requires c =
@@ -41,7 +41,7 @@ unfolding clause_at
 returns c =
     let a = c.args in
     let start = c.record_on-start in
-    appends_is
+    puts_is
     (lemma_there a.file.now a.p a.position c.if-p-position.false _
     (ap (λ (n : ℕ). literals a.file.now (start.result + 4) (n / 2)) c.two_at.ensures.0 ∙ start.ensures.0))
     c.put_clause.ensures

@@ -3,7 +3,7 @@ use native.Mathlib.Omega.{arith}
 use mathlib.Core.Path.{ap}
 use lib.ListN.{length}
 use borrow.Author.Tests.{le-leb, lt-leb}
-use Rattle.text.specs.PageLaws.{appends_none, appends_is, appends_both}
+use Rattle.text.specs.Pages.{puts_none, puts_is, puts_both}
 use Rattle.usage.specs.Texts.{shown}
 use Rattle.text_faults.specs.LimitLaws.{line_part}
 use Rattle.told_texts.specs.Refusals.{line_shown}
@@ -12,7 +12,7 @@ use Rattle.told_texts.proofs.refusals.put_line.Goals as goal
 pub returns-then-text-place : goal.returns-then-text-place
 unfolding line_shown
 returns-then-text-place c =
-    rw (le-leb (length c.args.text.now) c.args.place c.if-text-place.true) (appends_none _ _)
+    rw (le-leb (length c.args.text.now) c.args.place c.if-text-place.true) (puts_none _)
 
 pub returns : goal.returns
 unfolding line_shown
@@ -20,4 +20,4 @@ returns c =
     let t = c.args.text.now in
     let line = line_part t c.args.place c.line_end-end.result c.line_end-end.ensures in
     rw (lt-leb (length t) c.args.place (omega (arith, c.if-text-place.false)))
-    (appends_both c.put_all-next.ensures (appends_both (appends_is (ap shown line) c.put_word-next.ensures) c.put_all.ensures))
+    (puts_both c.put_all.ensures (puts_both (puts_is (ap shown line) c.put_word.ensures) c.put_all-2.ensures))

@@ -3,7 +3,7 @@ use Prim.Native.Nat.{ℕ}
 use mathlib.Core.Path.{ap}
 use Rattle.text.specs.Ascii.{ascii}
 use Rattle.text.specs.Filled.{filled}
-use Rattle.text.specs.PageLaws.{appends_is, appends_both}
+use Rattle.text.specs.Pages.{puts_is, puts_both}
 use Rattle.told_texts.specs.Refusals.{place_text}
 use Rattle.told_texts.proofs.refusals.put_place.Goals as goal
 
@@ -11,6 +11,6 @@ pub returns : goal.returns
 unfolding place_text
 returns c =
     let head =
-    appends_is (ap (λ (n : ℕ). filled (ascii "refusal 13 at byte #, line # of the ") c.args.place n 0) c.line_number.ensures)
-    c.put_filled-at.ensures in
-    appends_both head (appends_both c.put_all-at.ensures c.put_word.ensures)
+    puts_is (ap (λ (n : ℕ). filled (ascii "refusal 13 at byte #, line # of the ") c.args.place n 0) c.line_number.ensures)
+    c.put_filled.ensures in
+    puts_both head (puts_both c.put_all.ensures c.put_word.ensures)

@@ -1,54 +1,9 @@
--- `usage::texts::fault_line` goes by the fault, as the definition does. Assumes nothing.
-use Rattle.text.specs.PageLaws.{from_start, holds_none}
-use Rattle.usage.specs.Texts.{fault_text}
+-- `usage::texts::fault_line` meets its contract: one text. Assumes nothing.
+use Rattle.std.proofs.Common.{rules}
+use Rattle.text.specs.Pages.{puts_out}
 use Rattle.usage.proofs.texts.fault_line.Goals as goal
 
-pub returns-in-Nothing : goal.returns-in-Nothing
-unfolding fault_text
-returns-in-Nothing c =
-    rw c.in-Nothing.is (holds_none _)
-
-pub returns-in-Unknown : goal.returns-in-Unknown
-unfolding fault_text
-returns-in-Unknown c =
-    rw c.in-Unknown.is (from_start c.put_around.ensures)
-
-pub returns-in-Superfluous : goal.returns-in-Superfluous
-unfolding fault_text
-returns-in-Superfluous c =
-    rw c.in-Superfluous.is (from_start c.put_around-in-Superfluous.ensures)
-
-pub returns-in-NotANumber : goal.returns-in-NotANumber
-unfolding fault_text
-returns-in-NotANumber c =
-    rw c.in-NotANumber.is (from_start c.put_number_fault.ensures)
-
-pub returns-in-TooLarge : goal.returns-in-TooLarge
-unfolding fault_text
-returns-in-TooLarge c =
-    rw c.in-TooLarge.is (from_start c.put_number_fault-in-TooLarge.ensures)
-
-pub returns-in-NoFile : goal.returns-in-NoFile
-unfolding fault_text
-returns-in-NoFile c =
-    rw c.in-NoFile.is (from_start c.put_all.ensures)
-
-pub returns-in-NoJob : goal.returns-in-NoJob
-unfolding fault_text
-returns-in-NoJob c =
-    rw c.in-NoJob.is (from_start c.put_all-in-NoJob.ensures)
-
-pub returns-in-NoLemmas : goal.returns-in-NoLemmas
-unfolding fault_text
-returns-in-NoLemmas c =
-    rw c.in-NoLemmas.is (from_start c.put_all-in-NoLemmas.ensures)
-
-pub returns-in-NoLemmaFile : goal.returns-in-NoLemmaFile
-unfolding fault_text
-returns-in-NoLemmaFile c =
-    rw c.in-NoLemmaFile.is (from_start c.put_all-in-NoLemmaFile.ensures)
-
-pub returns-in-TwoInputs : goal.returns-in-TwoInputs
-unfolding fault_text
-returns-in-TwoInputs c =
-    rw c.in-TwoInputs.is (from_start c.put_all-in-TwoInputs.ensures)
+pub returns : goal.returns
+returns c =
+    let wrote = c.put_fault.ensures in
+    puts_out c.new-page.ensures wrote (search (rules, wrote.lent, c.new-page.ensures.lent))

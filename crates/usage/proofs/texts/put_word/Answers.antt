@@ -3,7 +3,7 @@ use mathlib.Core.Path.{sym, ap}
 use mathlib.Core.List.{map}
 use native.Mathlib.Omega.{arith}
 use lib.Seq.{take_all, length-take-le}
-use Rattle.text.specs.PageLaws.{appends_is}
+use Rattle.text.specs.Pages.{puts_is}
 use Rattle.usage.specs.Texts.{shown_byte, shown}
 use Rattle.usage.proofs.texts.put_word.Goals as goal
 
@@ -12,7 +12,7 @@ unfolding shown
 returns-then-word-le200 c =
     let t = c in
     let w = t.args.word.now in
-    appends_is (ap (map shown_byte) (sym (take_all 200 w t.if-word-le200.true))) c.put_shown.ensures
+    puts_is (ap (map shown_byte) (sym (take_all 200 w t.if-word-le200.true))) c.put_shown.ensures
 
 pub slice_bounds-put_shown-end : goal.slice_bounds-put_shown-end
 slice_bounds-put_shown-end c =

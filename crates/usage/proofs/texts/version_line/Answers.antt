@@ -1,8 +1,11 @@
 -- `usage::texts::version_line` meets its contract: one text. Assumes nothing.
-use Rattle.text.specs.PageLaws.{from_start}
+use Rattle.std.proofs.Common.{rules}
+use Rattle.text.specs.Pages.{puts_out}
 use Rattle.usage.specs.Texts.{version_text}
 use Rattle.usage.proofs.texts.version_line.Goals as goal
 
 pub returns : goal.returns
 unfolding version_text
-returns c = from_start c.put_all.ensures
+returns c =
+    let wrote = c.put_all.ensures in
+    puts_out c.new-page.ensures wrote (search (rules, wrote.lent, c.new-page.ensures.lent))

@@ -5,22 +5,22 @@ use Rattle.sections.specs.Whole.{lines_of}
 use Rattle.uses.specs.Passing.{known_number, passing_start, passing_wrong, passing_next, passing_end, known_here}
 use Rattle.uses.proofs.first.first_unknown.Goals as goal
 
-pub loop-i-init : goal.loop-i-init
-loop-i-init c =
+pub loop-init : goal.loop-init
+loop-init c =
     passing_start _ _ _ _ _ c.requires.rows_at.inside c.requires.rows_at.rows
 
 pub returns-then-not-is_known : goal.returns-then-not-is_known
 unfolding lines_of first_unknown known_number
 returns-then-not-is_known c =
-    passing_wrong _ _ _ _ _ c.loop-i.invariant (omega arith)
-    (sym (known_here _ _ _ _ _ _ c.nth-x.ensures.1 c.is_known.ensures) ∙ c.if-not-is_known.true)
+    passing_wrong _ _ _ _ _ c.loop.invariant (omega arith)
+    (sym (known_here _ _ _ _ _ _ c.nth-x.ensures.0 c.is_known.ensures) ∙ c.if-not-is_known.true)
 
-pub loop-i-preserved : goal.loop-i-preserved
-loop-i-preserved c =
-    passing_next _ _ _ _ _ c.loop-i.invariant (omega arith)
-    (sym (known_here _ _ _ _ _ _ c.nth-x.ensures.1 c.is_known.ensures) ∙ c.if-not-is_known.false) _ c.next_line-p.ensures.0
+pub loop-preserved : goal.loop-preserved
+loop-preserved c =
+    passing_next _ _ _ _ _ c.loop.invariant (omega arith)
+    (sym (known_here _ _ _ _ _ _ c.nth-x.ensures.0 c.is_known.ensures) ∙ c.if-not-is_known.false) _ c.next_line-p.ensures.0
 
 pub returns : goal.returns
 unfolding lines_of first_unknown known_number
 returns c =
-    passing_end _ _ _ _ _ c.loop-i.invariant (omega arith)
+    passing_end _ _ _ _ _ c.loop.invariant (omega arith)

@@ -1,10 +1,12 @@
-use Rattle.uses.specs.Fill.{filled_sized, marks_are, begun_given, begun_only, begun_long}
+use Rattle.uses.specs.Fill.{filled_in, marks_are, begun_given, begun_only}
 use Rattle.uses.specs.Stuck.{gate_passes}
 use Rattle.uses.proofs.stuck.gates_fault.Goals as goal
 
-pub solve-requires : goal.solve-requires
-solve-requires c =
-    filled_sized _ _ _ _ _ c.requires.count_bound c.fill.ensures c.fill-2.ensures (begun_long _ c.nothing_done-done.ensures)
+pub invariant_of-gates-clause-left_in : goal.invariant_of-gates-clause-left_in
+invariant_of-gates-clause-left_in c = filled_in _ c.args.c 1 _ c.fill.ensures
+
+pub invariant_of-gates-clause-right_in : goal.invariant_of-gates-clause-right_in
+invariant_of-gates-clause-right_in c = filled_in _ c.args.c 2 _ c.fill-2.ensures
 
 pub first_stuck-requires-clause-marks_are : goal.first_stuck-requires-clause-marks_are
 unfolding gate_passes

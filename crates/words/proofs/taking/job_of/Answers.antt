@@ -1,85 +1,30 @@
--- `words::taking::job_of` compares the word with each job's, one after another. Assumes nothing.
-use mathlib.Core.Path.{sym, ◌∙◌}
+use native.Mathlib.Omega.{arith}
+use Rattle.std.proofs.Common.{◌≡◌, rules}
+use Rattle.std.proofs.lemmas.Slice.Eq.{text_from_reads}
+use Rattle.text.specs.Ascii.{ascii}
 use Rattle.words.specs.Orders.{job_of}
 use Rattle.words.proofs.taking.job_of.Goals as goal
 
-pub returns-then-same : goal.returns-then-same
+pub returns-in-45 : goal.returns-in-45
 unfolding job_of
-returns-then-same c =
-    rw (sym c.same.ensures ∙ c.if-same.true)
+returns-in-45 c =
+    let e : c.args.word.now ≡ ascii "--help" = text_from_reads c.args.word.now (ascii "--help") (omega arith) (search rules) in
+    rw e
 
-pub returns-then-same-2 : goal.returns-then-same-2
+pub returns-in-largest : goal.returns-in-largest
 unfolding job_of
-returns-then-same-2 c =
-    rw (
-      sym c.same.ensures ∙ c.if-same.false,
-      sym c.same-2.ensures ∙ c.if-same-2.true,
-    )
+returns-in-largest c =
+    let e : c.args.word.now ≡ ascii "largest" = text_from_reads c.args.word.now (ascii "largest") (omega arith) (search rules) in
+    rw e
 
-pub returns-then-same-3 : goal.returns-then-same-3
+pub returns-in-problem : goal.returns-in-problem
 unfolding job_of
-returns-then-same-3 c =
-    rw (
-      sym c.same.ensures ∙ c.if-same.false,
-      sym c.same-2.ensures ∙ c.if-same-2.false,
-      sym c.same-3.ensures ∙ c.if-same-3.true,
-    )
+returns-in-problem c =
+    let e : c.args.word.now ≡ ascii "problem" = text_from_reads c.args.word.now (ascii "problem") (omega arith) (search rules) in
+    rw e
 
-pub returns-then-same-4 : goal.returns-then-same-4
+pub returns-in-45-2 : goal.returns-in-45-2
 unfolding job_of
-returns-then-same-4 c =
-    rw (
-      sym c.same.ensures ∙ c.if-same.false,
-      sym c.same-2.ensures ∙ c.if-same-2.false,
-      sym c.same-3.ensures ∙ c.if-same-3.false,
-      sym c.same-4.ensures ∙ c.if-same-4.true,
-    )
-
-pub returns-then-same-5 : goal.returns-then-same-5
-unfolding job_of
-returns-then-same-5 c =
-    rw (
-      sym c.same.ensures ∙ c.if-same.false,
-      sym c.same-2.ensures ∙ c.if-same-2.false,
-      sym c.same-3.ensures ∙ c.if-same-3.false,
-      sym c.same-4.ensures ∙ c.if-same-4.false,
-      sym c.same-5.ensures ∙ c.if-same-5.true,
-    )
-
-pub returns-then-same-6 : goal.returns-then-same-6
-unfolding job_of
-returns-then-same-6 c =
-    rw (
-      sym c.same.ensures ∙ c.if-same.false,
-      sym c.same-2.ensures ∙ c.if-same-2.false,
-      sym c.same-3.ensures ∙ c.if-same-3.false,
-      sym c.same-4.ensures ∙ c.if-same-4.false,
-      sym c.same-5.ensures ∙ c.if-same-5.false,
-      sym c.same-6.ensures ∙ c.if-same-6.true,
-    )
-
-pub returns-then-same-7 : goal.returns-then-same-7
-unfolding job_of
-returns-then-same-7 c =
-    rw (
-      sym c.same.ensures ∙ c.if-same.false,
-      sym c.same-2.ensures ∙ c.if-same-2.false,
-      sym c.same-3.ensures ∙ c.if-same-3.false,
-      sym c.same-4.ensures ∙ c.if-same-4.false,
-      sym c.same-5.ensures ∙ c.if-same-5.false,
-      sym c.same-6.ensures ∙ c.if-same-6.false,
-      sym c.same-7.ensures ∙ c.if-same-7.true,
-    )
-
-pub returns : goal.returns
-unfolding job_of
-returns c =
-    rw (
-      sym c.same.ensures ∙ c.if-same.false,
-      sym c.same-2.ensures ∙ c.if-same-2.false,
-      sym c.same-3.ensures ∙ c.if-same-3.false,
-      sym c.same-4.ensures ∙ c.if-same-4.false,
-      sym c.same-5.ensures ∙ c.if-same-5.false,
-      sym c.same-6.ensures ∙ c.if-same-6.false,
-      sym c.same-7.ensures ∙ c.if-same-7.false,
-    )
+returns-in-45-2 c =
+    let e : c.args.word.now ≡ ascii "--version" = text_from_reads c.args.word.now (ascii "--version") (omega arith) (search rules) in
+    rw e

@@ -1,19 +1,18 @@
--- `words::taking::take_option` compares the word with each option's. Assumes nothing.
-use mathlib.Core.Path.{sym, ◌∙◌}
+use native.Mathlib.Omega.{arith}
+use Rattle.std.proofs.Common.{◌≡◌, rules}
+use Rattle.std.proofs.lemmas.Slice.Eq.{text_from_reads}
+use Rattle.text.specs.Ascii.{ascii}
 use Rattle.words.specs.Orders.{take_option}
 use Rattle.words.proofs.taking.take_option.Goals as goal
 
-pub returns-then-same : goal.returns-then-same
+pub returns-in-45 : goal.returns-in-45
 unfolding take_option
-returns-then-same c =
-    rw (sym c.same.ensures ∙ c.if-same.true) c.take_marks.ensures
+returns-in-45 c =
+    let e : c.args.word.now ≡ ascii "--marks" = text_from_reads c.args.word.now (ascii "--marks") (omega arith) (search rules) in
+    rw e c.take_marks.ensures
 
-pub returns-then-same-2 : goal.returns-then-same-2
+pub returns-in-45-2 : goal.returns-in-45-2
 unfolding take_option
-returns-then-same-2 c =
-    rw (sym c.same.ensures ∙ c.if-same.false, sym c.same-2.ensures ∙ c.if-same-2.true) c.take_asked.ensures
-
-pub returns : goal.returns
-unfolding take_option
-returns c =
-    rw (sym c.same.ensures ∙ c.if-same.false, sym c.same-2.ensures ∙ c.if-same-2.false) c.with_fault.ensures
+returns-in-45-2 c =
+    let e : c.args.word.now ≡ ascii "--lemmas" = text_from_reads c.args.word.now (ascii "--lemmas") (omega arith) (search rules) in
+    rw e c.take_asked.ensures

@@ -1,8 +1,0 @@
-use Rattle.meaning.specs.CircuitText.{count_form, defined_in}
-use Rattle.sections.specs.Lists.{variables_of, first_lines}
-use Rattle.sections.specs.Rows.{form_of}
-use Rattle.circuit_text.proofs.properties.count_lines.Goals as goal
-
-pub returns : goal.returns
-unfolding form_of count_form variables_of first_lines defined_in
-returns c = λ n is. c.read_section.ensures n is

@@ -1,7 +1,0 @@
-use mathlib.Core.Path.{refl}
-use Rattle.meaning.specs.Calls.{refusal}
-use Rattle.circuits.proofs.asked.refused.Goals as goal
-
-pub returns : goal.returns
-unfolding refusal
-returns c = refl

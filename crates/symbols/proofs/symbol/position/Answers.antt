@@ -1,6 +1,0 @@
--- `symbols::symbol::position` meets its contract. Assumes nothing.
-use Rattle.symbols.specs.Before.{place_of}
-use Rattle.symbols.proofs.symbol.position.Goals as goal
-
-pub returns : goal.returns
-returns c = let x = c.number_at-x.ensures in place_of _ _ c.requires.named _ x.0 x.2

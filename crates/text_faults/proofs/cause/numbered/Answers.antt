@@ -1,7 +1,0 @@
--- `text_faults::cause::numbered` meets its contract: the place after such a line is no 0. Assumes nothing.
-use Rattle.text_faults.specs.CauseLaws.{numbered_is}
-use Rattle.text_faults.proofs.cause.numbered.Goals as goal
-
-pub returns : goal.returns
-returns c =
-    numbered_is c.args.width c.args.text.now c.args.at c.line_past.result c.line_past.ensures.0
