@@ -7,7 +7,7 @@ use Rattle.std.proofs.Math.Bool.{true, false, cond}
 use mathlib.Core.List.{List, [], ◌∷◌, ◌++◌, append_assoc, append-nil}
 use Rattle.std.proofs.Math.ListN.{length, get_or}
 use Rattle.std.proofs.Math.Seq.{slice, slice_empty}
-use Rattle.std.proofs.lemmas.List.{drop-append-le}
+use Rattle.std.proofs.lemmas.List.{drop-append-le, drop-take}
 use Rattle.std.proofs.Math.Dec.{ltb}
 use borrow.Author.Tests.{lt-ltb, le-ltb, ltb-true, ltb-false, leb-true, leb-false, le-leb, lt-leb}
 use Rattle.meaning.specs.Clauses.{all}
@@ -36,6 +36,10 @@ capped v = cond (leb huge v) huge v
 
 unfoldable pub grown : ℕ → ℕ → ℕ
 grown v d = cond (leb tenth v) huge (10 * v + d)
+
+-- digits stand in a text: they are some of its bytes, one behind another
+unfoldable pub StandIn : List ℕ → List ℕ → Type 0
+StandIn text digits = (start : ℕ) × (start + length digits ≤ length text) × (digits ≡ slice start (start + length digits) text)
 
 -- ---- a digit at a place
 
@@ -182,3 +186,30 @@ pub begun_whole : {text : List ℕ} {at end value : ℕ} → Begun text at end v
     → slice at end text ≡ digits_of (drop at text)
 begun_whole {text} {at} {end} h none =
     sym (append-nil (slice at end text)) ∙ ap (λ (w : List ℕ). slice at end text ++ w) (sym (no_digit text end none)) ∙ sym h.whole
+
+-- ---- digits that stand in a text
+
+digits_first : (w : List ℕ) → digits_of w ≡ take (length (digits_of w)) w
+unfolding digits_of
+digits_first [] = refl
+digits_first (b ∷ bs) = go (is_digit b) (digits_first bs)
+  where
+    go : (t : Bool) → digits_of bs ≡ take (length (digits_of bs)) bs
+        → cond t (b ∷ digits_of bs) [] ≡ take (length (cond t (b ∷ digits_of bs) [])) (b ∷ bs)
+    go true on = ap (λ (l : List ℕ). b ∷ l) on
+    go false on = refl
+
+-- those that start at a place do
+pub stand_at : (text digits : List ℕ) (at : ℕ) → digits ≡ digits_of (drop at text) → at + length digits ≤ length text → StandIn text digits
+unfolding StandIn
+stand_at text digits at whole inside = (
+  at,
+  inside,
+  whole ∙ digits_first (drop at text) ∙ ap (λ (d : List ℕ). take (length d) (drop at text)) (sym whole)
+      ∙ sym (drop-take at (length digits) text),
+)
+
+-- no digits stand in any text
+pub none_stand : (text : List ℕ) → StandIn text []
+unfolding StandIn
+none_stand text = (0, omega arith, sym (slice_empty 0 text))

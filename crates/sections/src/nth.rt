@@ -3,6 +3,7 @@ ghost use Rattle.std.specs.Prelude.{◌≡◌, true, ◌<◌, ◌≤◌, length,
 ghost use Rattle.meaning.specs.Clauses.{all};
 ghost use Rattle.meaning.specs.Lines.{ended, line_at, words, is_number};
 ghost use Rattle.meaning.specs.CircuitText.{numbers_at};
+ghost use Rattle.lines.specs.Digits.{StandIn};
 ghost use Rattle.lines.specs.Numbers.{worth};
 
 use lines::number::{Number, number_at};
@@ -13,7 +14,7 @@ pub fn nth(text: &[u8], at: usize, j: usize) -> Number<'_>
     requires at_value { ended text.now at ≡ true }
     requires at_value_2 { all is_number (words (line_at text.now at)) ≡ true }
     requires j_in_bounds { j < length (words (line_at text.now at)) }
-    ensures { (worth result ≡ get_or (numbers_at text.now at) j 0) × (0 < length result.digits.now) }
+    ensures { (worth result ≡ get_or (numbers_at text.now at) j 0) × (0 < length result.digits.now) × StandIn text.now result.digits.now }
 {
     let mut p = at;
     let mut x = number_at(text, p);
