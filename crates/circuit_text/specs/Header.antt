@@ -17,6 +17,7 @@ use Rattle.meaning.specs.CircuitText
 use Rattle.meaning.specs.CircuitText.{aag, same_bytes, number_in, header_of, header_right, numbers_at}
 use Rattle.laws.specs.Basics.{bool_cases, and_left, and_right, and_both, not_true_is_false}
 use Rattle.lines.specs.declared.number.Number.{Number}
+use Rattle.lines.specs.Digits.{StandIn}
 use Rattle.lines.specs.Numbers.{worth}
 use Rattle.lines.specs.Past.{line_past, line_byte, first_word}
 use Rattle.std.specs.declared.cmp.Ordering.{Ordering}
@@ -83,6 +84,18 @@ pub record Parts (text : List ℕ) (h : Header) : Type 0 where
   pub next_is : h.next ≡ next_line text 0
   pub next_in : h.next ≤ length text
   pub worths : header_at h ≡ header_of (line_at text 0)
+
+-- the digits of each of its numbers stand in the text
+pub record NumbersStand (text : List ℕ) (h : Header) : Type 0 where
+  pub m : StandIn text h.m.digits.now
+  pub i : StandIn text h.i.digits.now
+  pub l : StandIn text h.l.digits.now
+  pub o : StandIn text h.o.digits.now
+  pub a : StandIn text h.a.digits.now
+  pub b : StandIn text h.b.digits.now
+  pub c : StandIn text h.c.digits.now
+  pub j : StandIn text h.j.digits.now
+  pub f : StandIn text h.f.digits.now
 
 -- a header that is right
 pub record HeaderRight (text : List ℕ) (h : Header) : Type 0 where

@@ -1,7 +1,8 @@
 // The header: aag M I L O A, or aag M I L O A B C J F of which the last may be left out.
-ghost use Rattle.std.specs.Prelude.{◌≡◌, true, ◌≤◌, length};
+ghost use Rattle.std.specs.Prelude.{◌≡◌, true, ◌≤◌, length, IfSome};
 ghost use Rattle.meaning.specs.Lines.{ended, line_at, of_numbers};
-ghost use Rattle.circuit_text.specs.Header.{starts, HeaderIs, WidthIs, NumberIs};
+ghost use Rattle.lines.specs.Digits.{StandIn};
+ghost use Rattle.circuit_text.specs.Header.{starts, HeaderIs, WidthIs, NumberIs, NumbersStand};
 
 use lines::compare::compare;
 use lines::line::{line_past, next_line};
@@ -49,7 +50,8 @@ fn number_of(text: &[u8], width: usize, j: usize) -> Number<'_>
     requires in_bounds { 4 ≤ length text.now }
     requires text_value { ended text.now 4 ≡ true }
     requires text_value_2 { of_numbers width (line_at text.now 4) ≡ true }
-    ensures { NumberIs text.now j result }
+    ensures number { NumberIs text.now j result }
+    ensures stands { StandIn text.now result.digits.now }
 {
     if j < width {
         return nth(text, 4, j);
@@ -59,7 +61,8 @@ fn number_of(text: &[u8], width: usize, j: usize) -> Number<'_>
 
 // 'aag' and five to nine numbers, with I + L + A at most M.
 pub fn read_header(text: &[u8]) -> Option<Header<'_>>
-    ensures { HeaderIs text.now result }
+    ensures header { HeaderIs text.now result }
+    ensures stand { IfSome result (NumbersStand text.now) }
 {
     if !starts(text) {
         return None;
