@@ -209,7 +209,7 @@ stand_at text digits at whole inside = (
       ∙ sym (drop-take at (length digits) text),
 )
 
--- no digits stand in any text
+-- where there are none, they stand in every text
 pub none_stand : (text : List ℕ) → StandIn text []
 unfolding StandIn
 none_stand text = (0, omega arith, sym (slice_empty 0 text))
