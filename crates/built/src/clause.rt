@@ -1,10 +1,10 @@
 // The clause of some edges, as a record: a constant false leaves it, a constant true drops it.
 ghost use Rattle.std.specs.Prelude.{◌≡◌, ◌<◌, ◌≤◌, length, map};
-ghost use Rattle.std.specs.List.{count_by, list_any};
+ghost use Rattle.std.specs.List.{All, count_by, list_any};
 ghost use Rattle.meaning.specs.Built.{clause_if};
 ghost use Rattle.meaning.specs.Filed.{clause_records};
 ghost use Rattle.clause_count.specs.Lengths.{is_true};
-ghost use Rattle.built.specs.Edges.{edge_of, is_named};
+ghost use Rattle.built.specs.Edges.{edge_of, variable_of, is_named};
 ghost use Rattle.built.specs.Clause.{edge_bytes};
 ghost use Rattle.records.specs.Puts.{Puts, HasRoom};
 
@@ -27,7 +27,8 @@ fn has_true(edges: &[Edge]) -> bool
 
 // Writes the literal of an edge, if it is one.
 fn put_edge(out: &mut Records<'_>, e: Edge)
-    requires { HasRoom (edge_bytes (edge_of e)) out.old }
+    requires variable_bound { variable_of e ≤ 32767 }
+    requires e_in_bounds { HasRoom (edge_bytes (edge_of e)) out.old }
     ensures { Puts (edge_bytes (edge_of e)) out.old out.new }
 {
     match e {
@@ -41,6 +42,7 @@ fn put_edge(out: &mut Records<'_>, e: Edge)
 pub fn put_clause(out: &mut Records<'_>, kind: usize, edges: &[Edge])
     requires kind_bound { kind < 65536 }
     requires edges_bound { length edges.now ≤ 3 }
+    requires variable_bound { All (λ e. variable_of e ≤ 32767) edges.now }
     requires edges_in_bounds { HasRoom (clause_records kind (clause_if (map edge_of edges.now))) out.old }
     ensures { Puts (clause_records kind (clause_if (map edge_of edges.now))) out.old out.new }
 {

@@ -5,7 +5,7 @@ ghost use Rattle.meaning.specs.CircuitText.{numbers_at};
 ghost use Rattle.meaning.specs.Filed.{clause_records};
 ghost use Rattle.sections.specs.Whole.{circuit_at};
 ghost use Rattle.clause_count.specs.Rows.{RowAt};
-ghost use Rattle.built.specs.Edges.{edge_of, Small};
+ghost use Rattle.built.specs.Edges.{edge_of, variable_of, Small};
 ghost use Rattle.built.specs.Sections.{gate_clauses};
 ghost use Rattle.records.specs.Puts.{Puts, HasRoom};
 
@@ -18,6 +18,9 @@ use sections::circuit::Circuit;
 // The three clauses that make g the conjunction of a and b.
 fn put_and(out: &mut Records<'_>, kind: usize, g: Edge, a: Edge, b: Edge)
     requires kind_bound { kind < 65536 }
+    requires variable_bound { variable_of g ≤ 32767 }
+    requires variable_bound_2 { variable_of a ≤ 32767 }
+    requires variable_bound_3 { variable_of b ≤ 32767 }
     requires b_in_bounds { HasRoom (clause_records kind (and_clauses (edge_of g) (edge_of a) (edge_of b))) out.old }
     ensures { Puts (clause_records kind (and_clauses (edge_of g) (edge_of a) (edge_of b))) out.old out.new }
 {

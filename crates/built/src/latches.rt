@@ -5,7 +5,7 @@ ghost use Rattle.meaning.specs.CircuitText.{numbers_at};
 ghost use Rattle.meaning.specs.Filed.{clause_records};
 ghost use Rattle.sections.specs.Whole.{circuit_at};
 ghost use Rattle.clause_count.specs.Rows.{RowAt};
-ghost use Rattle.built.specs.Edges.{edge_of, Small};
+ghost use Rattle.built.specs.Edges.{edge_of, variable_of, Small};
 ghost use Rattle.built.specs.Sections.{latch_line, start_line};
 ghost use Rattle.records.specs.Puts.{Puts, HasRoom};
 
@@ -52,6 +52,7 @@ pub fn put_starts(text: &[u8], c: Circuit, out: &mut Records<'_>)
 fn put_same(out: &mut Records<'_>, y: usize, x: Edge)
     requires le_y { 1 ≤ y }
     requires y_bound { y ≤ 32767 }
+    requires variable_bound { variable_of x ≤ 32767 }
     requires x_in_bounds { HasRoom (clause_records 3 (next_clauses y (edge_of x))) out.old }
     ensures { Puts (clause_records 3 (next_clauses y (edge_of x))) out.old out.new }
 {

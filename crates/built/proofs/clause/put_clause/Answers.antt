@@ -19,8 +19,8 @@ loop-e-init c =
     after_head _ _ (room_is (sym same) c.requires.edges_in_bounds) _ (ap (λ k. 2 * k) c.named.ensures ∙ bytes_length _)
     c.put_head.ensures
 
-pub put_edge-requires : goal.put_edge-requires
-put_edge-requires c = left_room _ _ (left_is c.loop-e.invariant (bytes_next _ _ _ c.loop-e-test.true c.e-item.is))
+pub put_edge-requires-clause-e_in_bounds : goal.put_edge-requires-clause-e_in_bounds
+put_edge-requires-clause-e_in_bounds c = left_room _ _ (left_is c.loop-e.invariant (bytes_next _ _ _ c.loop-e-test.true c.e-item.is))
 
 pub loop-e-preserved : goal.loop-e-preserved
 loop-e-preserved c =

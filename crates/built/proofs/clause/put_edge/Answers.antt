@@ -8,7 +8,7 @@ unfolding edge_bytes
 returns-in-Constant c = rw c.in-Constant.is (puts_none _)
 
 pub put_literal-requires-clause-at_in_bounds : goal.put_literal-requires-clause-at_in_bounds
-put_literal-requires-clause-at_in_bounds c = named_room _ (rw c.in-Named.is at c.requires)
+put_literal-requires-clause-at_in_bounds c = named_room _ (rw c.in-Named.is at c.requires.e_in_bounds)
 
 pub returns-in-Named : goal.returns-in-Named
 unfolding edge_bytes
