@@ -1,6 +1,6 @@
 -- Symbol lines before a place: what they name, and how they are walked from the first on.
 use Rattle.std.specs.Prelude.{ℕ, ◌+◌, ◌≤◌, ◌<◌, ◌≡◌, Bool, ◌&&◌, ◌||◌, cond, length, get_or, drop, ltb, leb, eqb}
-use Rattle.std.proofs.Common.{arith, ◌∙◌, leb-true, ltb-true}
+use Rattle.std.proofs.Common.{arith, ◌∙◌, leb-true, ltb-true, ne_eqb}
 use Rattle.std.proofs.Math.Path.{refl, sym, ap, subst}
 use Rattle.std.proofs.Math.Bool.{true, false, not}
 use mathlib.Core.List.{List, [], ◌∷◌, ◌++◌}
@@ -77,6 +77,13 @@ pub compared : (letter place letter' place' : ℕ) (s : Symbol) → symbol lette
     → same ≡ (eqb letter letter' && eqb place place') → same ≡ same_symbol (symbol letter place) s
 unfolding same_symbol symbol
 compared letter place letter' place' s is same same_is = same_is ∙ ap (same_symbol (symbol letter place)) is
+
+-- a line of another letter names another position, whatever its number
+pub other_letter : (text : List ℕ) (at : ℕ) → Named text at → (letter place : ℕ) → (letter ≡ get_or text at 0 → ⊥)
+    → false ≡ same_symbol (symbol letter place) (symbol_of (line_at text at))
+unfolding same_symbol symbol
+other_letter text at named letter place other =
+    sym (rw (ne_eqb letter (symbol_of (line_at text at)).letter (λ e. other (e ∙ named.letter))))
 
 -- ---- lines from one place to another
 

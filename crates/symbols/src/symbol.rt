@@ -47,6 +47,17 @@ fn position_at(text: &[u8], at: usize) -> Position
     }
 }
 
+impl Position {
+    // Whether a line names this position. Its number is read only where its letter is the same.
+    fn is_named(self, text: &[u8], at: usize) -> bool
+        requires at_in_bounds { at < length text.now }
+        requires named { Named text.now at }
+        ensures { result ≡ same_symbol (symbol self.letter self.place) (symbol_of (line_at text.now at)) }
+    {
+        self.letter == text[at] && self == position_at(text, at)
+    }
+}
+
 impl Line<'_> {
     // A letter, at once a position below I, L, O, B, C, J or F, one space, a name of one byte at least.
     pub fn named_right(&self, counts: Counts) -> bool
@@ -80,7 +91,7 @@ impl Line<'_> {
         let mut p = first;
         // A walk from line to line, and so by places that jump: nothing is counted by hand.
         while p < self.at {
-            if named == position_at(self.text, p) {
+            if named.is_named(self.text, p) {
                 return true;
             }
             p = next_line(self.text, p);
