@@ -1,7 +1,8 @@
 -- The gates of a circuit text by number: where their literals come from, and which of their lines cannot be worked out.
-use Rattle.std.specs.Prelude.{Bool, ℕ, zero, suc, ◌+◌, ◌≤◌, ◌<◌, ◌≡◌, refl, ◌⊎◌, true, false, length, set, replicate, eqb}
+use Rattle.std.specs.Prelude.{ℕ, zero, suc, ◌+◌, ◌≤◌, ◌<◌, ◌≡◌, refl, ◌⊎◌, true, false, length, set, replicate, eqb}
 use Rattle.std.proofs.Common.{arith, sym, subst, ◌∙◌, inl, inr, true≢false, length-set, get_or-set_same, eqb-true}
 use Rattle.std.proofs.Math.Path.{ap}
+use Rattle.std.proofs.Math.Bool.{not}
 use mathlib.Core.List.{List, []}
 use Rattle.std.proofs.Math.ListN.{get_or, get_or-map}
 use Rattle.std.proofs.lemmas.List.{length-replicate}
@@ -75,32 +76,32 @@ gate_line text c k h =
     ∙ ap gate_of (nth_line text c.gates.at c.gates.count k h)
 
 -- the marks before the first round: what is given
-nothing_marked : (n k : ℕ) → get_or (replicate n false) k false ≡ false
-nothing_marked zero k = refl
-nothing_marked (suc n) zero = refl
-nothing_marked (suc n) (suc k) = nothing_marked n k
+zeros : (n k : ℕ) → ◌≡◌ {A = ℕ} (get_or (replicate n 0) k 0) 0
+zeros zero k = refl
+zeros (suc n) zero = refl
+zeros (suc n) (suc k) = zeros n k
 
-module _ (d : List Bool) (is : d ≡ replicate 10925 false) where
+module _ (d : List ℕ) (is : d ≡ replicate 10925 0) where
   length_is : length d ≡ 10925
-  length_is = ap length is ∙ length-replicate {A = Bool} 10925 false
+  length_is = ap length is ∙ length-replicate {A = ℕ} 10925 0
 
-  pub begun_given : is_done (set d 0 true) 0 ≡ true
+  pub begun_given : is_done (set d 0 1) 0 ≡ true
   unfolding is_done
-  begun_given = get_or-set_same d 0 true false (subst (λ (n : ℕ). 0 < n) (sym length_is) (omega arith))
+  begun_given = ap (λ (b : ℕ). not (eqb b 0)) (get_or-set_same d 0 1 0 (subst (λ (n : ℕ). 0 < n) (sym length_is) (omega arith)))
 
-  pub begun_only : (k : ℕ) → is_done (set d 0 true) k ≡ true → k ≡ 0
+  pub begun_only : (k : ℕ) → is_done (set d 0 1) k ≡ true → k ≡ 0
   unfolding is_done
   begun_only k h = go (bool_cases (eqb k 0))
     where
-      none : (k ≡ 0 → ⊥) → get_or (set d 0 true) k false ≡ false
-      none other = get_or-set_other d 0 k true false other ∙ ap (λ (l : List Bool). get_or l k false) is ∙ nothing_marked 10925 k
+      none : (k ≡ 0 → ⊥) → get_or (set d 0 1) k 0 ≡ 0
+      none other = get_or-set_other d 0 k 1 0 other ∙ ap (λ (l : List ℕ). get_or l k 0) is ∙ zeros 10925 k
 
       go : (eqb k 0 ≡ true) ⊎ (eqb k 0 ≡ false) → k ≡ 0
       go (inl t) = eqb-true k 0 t
-      go (inr t) = absurd (true≢false (sym h ∙ none (eqb-false k 0 t)))
+      go (inr t) = absurd (true≢false (sym h ∙ ap (λ (b : ℕ). not (eqb b 0)) (none (eqb-false k 0 t))))
 
-  pub begun_long : length (set d 0 true) ≡ 10925
-  begun_long = length-set d 0 true ∙ length_is
+  pub begun_long : length (set d 0 1) ≡ 10925
+  begun_long = length-set d 0 1 ∙ length_is
 
 -- ---- put together
 
@@ -113,7 +114,7 @@ pub filled_in : (text : List ℕ) (c : Circuit) (j : ℕ) (xs : List ℕ) → Fi
 filled_in text c j xs f i h = subst (λ (a : ℕ). a ≤ c.gates.count + 1) (sym (f.is i h)) (sources_most text c (var (gate_number text c j i)))
 
 -- each gate line's mark says whether it can be worked out
-pub marks_are : (text : List ℕ) (c : Circuit) (left right : List ℕ) (d after : List Bool) → Once (gate_variables (circuit_at text c))
+pub marks_are : (text : List ℕ) (c : Circuit) (left right d after : List ℕ) → Once (gate_variables (circuit_at text c))
     → ((g : Gate) → In g (circuit_at text c).gates → given (circuit_at text c) (var g.lit) ≡ false)
     → Filled text c 1 left c.gates.count → Filled text c 2 right c.gates.count → is_done d 0 ≡ true
     → ((k : ℕ) → is_done d k ≡ true → k ≡ 0) → Solved left right c.gates.count d after

@@ -1,7 +1,8 @@
 -- The first line that uses what it may not, put together.
-use Rattle.std.specs.Prelude.{ℕ, suc, ◌+◌, ◌<◌, ◌≡◌, refl, Bool, true, false, List, get_or, Result, Ok, Err}
-use Rattle.std.proofs.Common.{add-one, sym, ◌∙◌}
+use Rattle.std.specs.Prelude.{ℕ, suc, ◌+◌, ◌<◌, ◌≡◌, refl, Bool, true, false, List, get_or, eqb, Result, Ok, Err}
+use Rattle.std.proofs.Common.{add-one, sym, ◌∙◌, eq-eqb, ne_eqb}
 use Rattle.std.proofs.Math.Path.{ap}
+use Rattle.std.proofs.Math.Bool.{not}
 use Rattle.std.proofs.Math.Option.{Option, none, some}
 use Rattle.meaning.specs.Demands.{In}
 use Rattle.meaning.specs.Circuit
@@ -26,22 +27,22 @@ pub record Distinct (c : Circuit.Circuit) : Type 0 where
   pub apart : (g : Gate) → In g c.gates → given c (var g.lit) ≡ false
 
 -- each gate line's mark says whether it can be worked out
-abbrev pub MarksAre : List ℕ → Circuit → List Bool → Type 0
+abbrev pub MarksAre : List ℕ → Circuit → List ℕ → Type 0
 MarksAre text c d =
     (k : ℕ) → k < c.gates.count → is_done d (suc k) ≡ gate_passes (circuit_at text c) (line_here text (line_after text c.gates.at k))
 
-module _ (text : List ℕ) (c : Circuit) (d : List Bool) (m : MarksAre text c d) (i p : ℕ) (less : i < c.gates.count) (p_is : p ≡ line_after text c.gates.at i) where
-  mark_is : get_or d (i + 1) false ≡ gate_passes (circuit_at text c) (line_here text p)
+module _ (text : List ℕ) (c : Circuit) (d : List ℕ) (m : MarksAre text c d) (i p : ℕ) (less : i < c.gates.count) (p_is : p ≡ line_after text c.gates.at i) where
+  mark_is : not (eqb (get_or d (i + 1) 0) 0) ≡ gate_passes (circuit_at text c) (line_here text p)
   unfolding is_done
   mark_is =
-      ap (λ (k : ℕ). get_or d k false) (add-one i) ∙ m i less
+      ap (λ (k : ℕ). not (eqb (get_or d k 0) 0)) (add-one i) ∙ m i less
       ∙ ap (λ (k : ℕ). gate_passes (circuit_at text c) (line_here text k)) (sym p_is)
 
-  pub mark_stuck : get_or d (i + 1) false ≡ false → gate_passes (circuit_at text c) (line_here text p) ≡ false
-  mark_stuck e = sym mark_is ∙ e
+  pub mark_stuck : get_or d (i + 1) 0 ≡ 0 → gate_passes (circuit_at text c) (line_here text p) ≡ false
+  mark_stuck e = sym mark_is ∙ ap not (eq-eqb (get_or d (i + 1) 0) 0 e)
 
-  pub mark_works : get_or d (i + 1) false ≡ true → gate_passes (circuit_at text c) (line_here text p) ≡ true
-  mark_works e = sym mark_is ∙ e
+  pub mark_works : (get_or d (i + 1) 0 ≡ 0 → ⊥) → gate_passes (circuit_at text c) (line_here text p) ≡ true
+  mark_works other = sym mark_is ∙ ap not (ne_eqb (get_or d (i + 1) 0) 0 other)
 
 -- ---- latches, then what stands between, then gates
 

@@ -83,7 +83,7 @@ unfoldable pub nth_gate : Circuit → ℕ → Gate
 nth_gate c k = get_or c.gates k no_gate
 
 module _ (c : Circuit) (once : Once (gate_variables c)) (apart : (g : Gate) → In g c.gates → given c (var g.lit) ≡ false)
-    (left right : List ℕ) (d after : List Bool) (start : is_done d 0 ≡ true) (only : (k : ℕ) → is_done d k ≡ true → k ≡ 0)
+    (left right d after : List ℕ) (start : is_done d 0 ≡ true) (only : (k : ℕ) → is_done d k ≡ true → k ≡ 0)
     (left_is : (k : ℕ) → k < length c.gates → get_or left k 0 ≡ source_of c (var (nth_gate c k).left))
     (right_is : (k : ℕ) → k < length c.gates → get_or right k 0 ≡ source_of c (var (nth_gate c k).right))
     (s : Solved left right (length c.gates) d after) where

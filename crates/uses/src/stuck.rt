@@ -1,5 +1,5 @@
 // The first gate line that cannot be worked out.
-ghost use Rattle.std.specs.Prelude.{◌≡◌, Bool, false, ◌<◌, ◌≤◌, ℕ, suc, length, replicate};
+ghost use Rattle.std.specs.Prelude.{◌≡◌, Bool, ◌<◌, ◌≤◌, ℕ, suc, length, replicate};
 ghost use Rattle.meaning.specs.CircuitText.{first_not, uses_fault};
 ghost use Rattle.sections.specs.Lists.{line_after};
 ghost use Rattle.sections.specs.Whole.{Whole, circuit_at, lines_of, properties_of, sections_of};
@@ -30,10 +30,10 @@ fn no_sources() -> [u16; 10923]
     [0; 10923]
 }
 
-fn nothing_done() -> [bool; 10925]
-    ensures { result ≡ replicate 10925 false }
+fn nothing_done() -> [u8; 10925]
+    ensures { result ≡ replicate 10925 0 }
 {
-    [false; 10925]
+    [0; 10925]
 }
 
 // Where number j of each gate line comes from: one more than the number of gates, which is never worked out, where it comes from nowhere.
@@ -54,7 +54,7 @@ fn fill(text: &[u8], c: Circuit, j: usize, out: &mut [u16; 10923])
 }
 
 // The first gate line whose mark says that it is not worked out.
-fn first_stuck(text: &[u8], c: Circuit, done: &[bool; 10925]) -> Result<(), Fault>
+fn first_stuck(text: &[u8], c: Circuit, done: &[u8; 10925]) -> Result<(), Fault>
     requires whole { Whole text.now c }
     requires count_bound { c.gates.count ≤ 10922 }
     requires marks_are { MarksAre text.now c done.now }
@@ -62,7 +62,7 @@ fn first_stuck(text: &[u8], c: Circuit, done: &[bool; 10925]) -> Result<(), Faul
 {
     let mut p = c.gates.at;
     for i in 0..c.gates.count {
-        if !done[i + 1] {
+        if done[i + 1] == 0 {
             return Err(Fault { at: p });
         }
         p = next_line(text, p);
@@ -82,7 +82,7 @@ fn gates_fault(text: &[u8], c: Circuit) -> Result<(), Fault>
     fill(text, c, 1, &mut left);
     fill(text, c, 2, &mut right);
     let mut done = nothing_done();
-    done[0] = true;
+    done[0] = 1;
     let gates = Gates {
         left: &left,
         right: &right,

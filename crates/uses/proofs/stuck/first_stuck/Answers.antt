@@ -7,11 +7,11 @@ use Rattle.uses.proofs.stuck.first_stuck.Goals as goal
 pub loop-i-init : goal.loop-i-init
 loop-i-init c = passing_start _ _ _ _ _ c.requires.whole.gates.inside c.requires.whole.gates.rows
 
-pub returns-then-not-done-i : goal.returns-then-not-done-i
+pub returns-then-done-i-eq0 : goal.returns-then-done-i-eq0
 unfolding lines_of
-returns-then-not-done-i c =
+returns-then-done-i-eq0 c =
     let g = c.loop-i.invariant in
-    passing_wrong _ _ _ _ _ g (omega arith) (mark_stuck _ c.args.c _ c.requires.marks_are _ _ (omega arith) g.place c.if-not-done-i.true)
+    passing_wrong _ _ _ _ _ g (omega arith) (mark_stuck _ c.args.c _ c.requires.marks_are _ _ (omega arith) g.place c.if-done-i-eq0.true)
 
 pub next_line-p-requires-clause-at_value : goal.next_line-p-requires-clause-at_value
 next_line-p-requires-clause-at_value c = (passing_row _ _ _ _ _ c.loop-i.invariant (omega arith)).closed
@@ -20,7 +20,7 @@ pub loop-i-preserved : goal.loop-i-preserved
 loop-i-preserved c =
     let g = c.loop-i.invariant in
     passing_next _ _ _ _ _ g (omega arith)
-    (mark_works _ c.args.c _ c.requires.marks_are _ _ (omega arith) g.place c.if-not-done-i.false) _ c.next_line-p.ensures.0
+    (mark_works _ c.args.c _ c.requires.marks_are _ _ (omega arith) g.place c.if-done-i-eq0.false) _ c.next_line-p.ensures.0
 
 pub returns : goal.returns
 unfolding lines_of
