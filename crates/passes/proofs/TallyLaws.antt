@@ -7,6 +7,8 @@ use Rattle.passes.specs.Sweep.{met, failed, one, more, status, Next, satisfied, 
 use Rattle.passes.specs.declared.Tally.{Tally}
 use Rattle.passes.specs.declared.Status
 use Rattle.passes.specs.declared.Tally.TheVariants.{Satisfied, Forced, Closed, Try}
+use Rattle.passes.specs.declared.Status.TheVariants.{Holds, Fails, One, More}
+use Rattle.format.specs.declared.Literal.{Literal as Held}
 use Rattle.passes.specs.Forms.{status_of, tally_at}
 
 -- a clause met by a pass, by its status
@@ -28,6 +30,15 @@ meet_at Satisfied v c = refl
 meet_at Forced v c = refl
 meet_at Closed v c = refl
 meet_at (Try l) v c = refl
+
+-- a clause of a status that is not one forced place leaves the setting
+pub set_by_other : (s : Status.Status) (v : Setting)
+    → ((l : Held) → s ≡ One l → ⊥) → v ≡ set_by (status_of s) v
+unfolding set_by
+set_by_other Holds v h = refl
+set_by_other Fails v h = refl
+set_by_other (More l) v h = refl
+set_by_other (One l) v h = absurd (h l refl)
 
 -- one turn of a pass: a clause, its status, and the pass that has met it
 abbrev pub Met : Tally → Setting → Status.Status → Tally → Setting → Type 0
