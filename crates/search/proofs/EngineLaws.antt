@@ -3,6 +3,7 @@ use Prim.Native.Nat.{ℕ, ◌+◌, ◌-◌, ◌≤◌, ◌<◌}
 use native.Mathlib.Nat.{pos_of_ne-zero}
 use native.Mathlib.Omega.{arith}
 use mathlib.Core.Path.{◌≡◌, refl, sym, ap, ◌∙◌, subst}
+use mathlib.Core.Logic.{◌⊎◌, inl, inr}
 use mathlib.Core.Bool.{Bool}
 use mathlib.Core.List.{List, ◌++◌, map}
 use lib.ListN.{length}
@@ -23,7 +24,7 @@ use Rattle.format.specs.declared.Literal.{Literal as Held}
 use Rattle.search.specs.declared.Parts.{Parts}
 use Rattle.passes.specs.declared.Tally.{Tally}
 use Rattle.passes.specs.declared.Tally.TheVariants.{Satisfied, Try, Forced, Closed}
-use Rattle.search.specs.declared.Answer.TheVariants.{No}
+use Rattle.search.specs.declared.Answer.TheVariants.{Yes, No}
 use Rattle.passes.specs.Forms.{entries, tally_at}
 use Rattle.passes.proofs.EntryLaws.{entries_length}
 use Rattle.passes.specs.Sweep.{Pass, passed, try, sweep}
@@ -48,7 +49,7 @@ module _ (file : List ℕ) (on : List Bool) (q : Parts) where
   abbrev deny : List Clause
   deny = denied (map (next q.added) (literals file q.denied.at q.denied.count))
 
-  parts_within : Sound file q → Within 512 (parts_clauses file on q)
+  pub parts_within : Sound file q → Within 512 (parts_clauses file on q)
   unfolding parts_clauses
   parts_within s =
       of_append (UpTo 512) first (lemmas ++ (last ++ deny)) s.first.within
@@ -86,6 +87,11 @@ ready_ended cs v u left Closed h r = sym (ap (λ (e : Ending). bounded left (ans
 ready_ended cs v u left Forced h r = absurd r
 ready_ended cs v u left (Try l) h r = absurd (h l refl)
 
+-- an answer that is no `No`
+pub not_no : (f : Found) → ((e : ℕ) × (f ≡ Ok (Yes e))) ⊎ (f ≡ Err (record {})) → (d : ℕ) → f ≡ Ok (No d) → ⊥
+not_no f (inl (e, same)) d x = cc
+not_no f (inr same) d x = cc
+
 -- the entries of a setting
 pub entries_sized : (xs : List ℕ) → length xs ≡ 513 → length (entries xs) ≡ 513
 entries_sized xs h = entries_length xs ∙ h
@@ -98,7 +104,7 @@ pub record Trying (cs : List Clause) (v u : Setting) (l : Literal) : Type 0 wher
 
 -- rule (d) there, within a budget
 module _ {cs : List Clause} {v u : Setting} {l : Literal} (at : Trying cs v u l) where
-  try_sized : (m : Literal) → length (with_literal u m) ≡ 513
+  pub try_sized : (m : Literal) → length (with_literal u m) ≡ 513
   try_sized m = length_with u m ∙ at.ready.4 ∙ at.sized
 
   true_found : search_at cs (with_literal u l) ≡ lost → ⊥
