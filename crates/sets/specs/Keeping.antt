@@ -1,4 +1,4 @@
--- A set that was kept, by whether the budget was used up; and the rounds of a set, one round at a time.
+-- The rounds of a set, one round at a time.
 use Rattle.std.specs.Prelude.{ℕ, suc, ◌+◌, ◌-◌, ◌≤◌, ◌<◌, ◌≡◌, Bool, Ok}
 use Rattle.std.proofs.Math.Path.{refl, sym, ap}
 use Rattle.std.proofs.Common.{subst, subst₂, ◌∙◌, arith, add_assoc, zero-add}

@@ -13,7 +13,7 @@ take_replicate zero n b h = refl
 take_replicate (suc k) zero b h = absurd (not-suc-le-zero h)
 take_replicate (suc k) (suc n) b h = ap (λ (l : List Bool). b ∷ l) (take_replicate k n b (le_of_suc-le-suc h))
 
-stored : (k : ℕ) (s r : Marks) (q : ℕ) (b : Bool) → q < k → r.on ≡ set s.on q b → marks_at k r ≡ set (marks_at k s) q b
+pub stored : (k : ℕ) (s r : Marks) (q : ℕ) (b : Bool) → q < k → r.on ≡ set s.on q b → marks_at k r ≡ set (marks_at k s) q b
 unfolding marks_at
 stored k s r q b h e = ap (take k) e ∙ take-set-lt k s.on q b h
 

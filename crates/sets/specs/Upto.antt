@@ -1,13 +1,14 @@
 -- Lists up to a place: what a loop over positions has done so far.
 use Rattle.std.specs.Prelude.{ℕ, zero, suc, ◌+◌, ◌≤◌, ◌<◌, ◌≡◌, Bool, true, false, ◌||◌, cond, get_or}
 use Rattle.std.proofs.Math.Path.{refl, sym, ap, ap₂, subst}
-use Rattle.std.proofs.Common.{◌∙◌, arith, add_assoc, add-zero, take-suc, drop-cons, length-take-le, get_or-append-add, get_or-drop}
+use Rattle.std.proofs.Common.{◌∙◌, arith, add_assoc, add-zero, add-one, take-suc, drop-cons, length-take-le, get_or-append-add, get_or-drop}
 use Rattle.std.proofs.Math.Bool.{or-false, or_assoc}
 use mathlib.Core.List.{List, [], ◌∷◌, ◌++◌, append-nil}
 use Rattle.std.proofs.Math.ListN.{length, take, drop, set}
 use Rattle.std.proofs.Math.Seq.{take-length, drop-length, set_at, append_snoc}
 use Rattle.std.specs.List.{count_by}
 use Rattle.std.proofs.lemmas.List.Recursion.{is_count_by}
+use Rattle.std.proofs.lemmas.List.Sums.{count_by_more_yes, count_by_more_no}
 use Rattle.meaning.specs.Clauses.{any}
 use Rattle.meaning.specs.Rules.{sum, size}
 
@@ -85,3 +86,12 @@ size_count S = is_count_by size (λ b. b) refl next S
     next : (b : Bool) (l : List Bool) → size (b ∷ l) ≡ cond b (1 + size l) (size l)
     next true l = omega arith
     next false l = refl
+
+-- and how many up to a place
+pub size_in : (l : List Bool) (d : ℕ) → d < length l → get_or l d false ≡ true → size (take (suc d) l) ≡ suc (size (take d l))
+size_in l d h e =
+    omega (arith, size_count (take (suc d) l), size_count (take d l), simp add-one at (count_by_more_yes (λ b. b) l d false h e))
+
+pub size_out : (l : List Bool) (d : ℕ) → d < length l → get_or l d false ≡ false → size (take (suc d) l) ≡ size (take d l)
+size_out l d h e =
+    omega (arith, size_count (take (suc d) l), size_count (take d l), simp add-one at (count_by_more_no (λ b. b) l d false h e))

@@ -58,7 +58,8 @@ fn sift_at(
     if !s.on[d] {
         return Ok(done);
     }
-    let a = search::ask(of, s, way.question(d), left - done.used)?;
+    let whole = s; // and not what is left of it
+    let a = search::ask(of, whole, way.question(d), left - done.used)?;
     match a {
         Answer::Yes(u) => Ok(Sifted {
             set: done.set.without(d),
