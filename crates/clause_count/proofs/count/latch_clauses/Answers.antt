@@ -12,6 +12,6 @@ none_is s b h = grind arith
 
 pub returns : goal.returns
 returns c =
-    let free = none_is _ _ c.is_none.ensures in
+    let free = none_is c.start_at-start.result _ c.is_none.ensures in
     let first = c.unless.ensures.0 ∙ ap (λ (b : Bool). unless_any (b ∷ [])) free in
     (omega (arith, first, latch_counted _ _ _ c.start_at-start.ensures c.value_at-x.ensures), omega arith)
