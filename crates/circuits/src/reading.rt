@@ -26,7 +26,11 @@ fn judge(text: &[u8], c: Circuit, lemmas: &[u8]) -> Result<Circuit, Refusal>
     requires text_value { read_circuit_text text.now ≡ right (circuit_at text.now c) }
     ensures { Judged text.now lemmas.now result }
 {
-    let found = read_lemmas(lemmas, c.latches.count)?;
+    // A match, and no `?`: what a fault of the lemmas is told as stands here, before the limits.
+    let found = match read_lemmas(lemmas, c.latches.count) {
+        Ok(found) => found,
+        Err(fault) => return Err(Refusal::Line(fault)),
+    };
     if has_liveness(c.properties) {
         return Err(Refusal::Liveness);
     }
