@@ -95,7 +95,9 @@ fn tell_version(rt: &HostRuntime) {
     );
 }
 
-// The job on a problem file, or on a circuit and its lemmas.
+// The job on a problem file, or on a circuit and its lemmas. Apart from `main`, so that help and a word at fault take none of the mebibytes of stack
+// that the texts are read into.
+#[inline(never)]
 fn work(rt: &HostRuntime, g: Given) {
     match (g.file, g.lemmas) {
         (Some(file), Some(lemmas)) => texts::work(rt, g.order, file, lemmas),
