@@ -96,7 +96,10 @@ pub fn shrink(of: &Asked<'_>, s: Marks, left: u64) -> Result<Kept, Spent>
 {
     let mut r = Kept { set: s, used: 0 };
     for q in 0..of.problem.k {
-        r = shrink_at(of, s, r, q, left)?;
+        // nothing is moved for a position that is out
+        if r.set.on[q] {
+            r = shrink_at(of, s, r, q, left)?;
+        }
     }
     Ok(r)
 }

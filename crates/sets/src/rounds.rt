@@ -84,7 +84,10 @@ pub fn sift(of: &Asked<'_>, s: Marks, way: Way, left: u64) -> Result<Sifted, Spe
         removed: false,
     };
     for d in 0..of.problem.k {
-        r = sift_at(of, s, way, r, d, left)?;
+        // nothing is moved for a position that is out
+        if s.on[d] {
+            r = sift_at(of, s, way, r, d, left)?;
+        }
     }
     Ok(r)
 }
