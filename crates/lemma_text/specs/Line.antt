@@ -165,13 +165,13 @@ module _ (most : ℕ) (text : List ℕ) (at : ℕ) (x : Word) (w : WordAt text a
       unfolding lemma_right
       last_right = rw (word_last text at x w inside is)
 
-      bad_sign : at < x.start → good_line most text at ≡ false
+      pub bad_sign : at < x.start → good_line most text at ≡ false
       bad_sign h =
           let minus = sym (sign_before text at x w) ∙ lt-ltb at x.start h in
           bad_words most text at
           (last_right ∙ ap (λ (t : Bool). is_zero (with_sign t x.number.digits.now)) minus ∙ signed_not_zero x.number.digits.now)
 
-      bad_value : 0 < x.number.value → good_line most text at ≡ false
+      pub bad_value : 0 < x.number.value → good_line most text at ≡ false
       unfolding is_zero with_sign
       bad_value h = bad_words most text at (last_right ∙ go negative)
         where
