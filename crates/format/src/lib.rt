@@ -3,6 +3,7 @@
 #![tactic(auto)]
 
 ghost use Rattle.std.specs.Prelude.{◌≡◌, ◌+◌, ◌<◌, ◌≤◌, length};
+ghost use Rattle.std.specs.Int.{w16, cast_signed};
 ghost use Rattle.meaning.specs.File.{two_at, literal_at, kind_row};
 ghost use Rattle.format.specs.Forms.{literal_of, kind_of};
 
@@ -136,17 +137,28 @@ pub fn two_at(file: &[u8], at: usize) -> usize
     usize::from(u16::from_le_bytes([file[at], file[at + 1]]))
 }
 
-// The literal at a place: v for a variable, -v for its negation. -32768 has no positive of two bytes, and its variable is larger than any.
+// The signed number that two bytes at a place say, little-endian. A function of its own, so that the two are read as one word where it is inlined.
+#[tactic(auto, unfolding(meaning::specs::File::two_at))]
+fn signed_at(file: &[u8], at: usize) -> i16
+    requires { at + 1 < length file.now }
+    ensures { result ≡ cast_signed w16 (two_at file.now at) }
+{
+    i16::from_le_bytes([file[at], file[at + 1]])
+}
+
+// The literal at a place: v for a variable, -v for its negation. The range is tested before the number is negated: -32768 has no positive of
+// two bytes, and its variable is larger than any.
 #[tactic(auto, using(std::proofs::lemmas::Int::ints), unfolding(meaning::specs::File::literal_at, meaning::specs::File::signed, meaning::specs::File::two_at))]
 pub fn literal_at(file: &[u8], at: usize) -> Literal
     requires { at + 1 < length file.now }
     ensures { literal_of result ≡ literal_at file.now at }
 {
-    let x = i16::from_le_bytes([file[at], file[at + 1]]);
-    let v = usize::from(x.unsigned_abs());
-    if x < 0 {
-        Literal::Neg(v)
-    } else {
-        Literal::Pos(v)
+    let x = signed_at(file, at);
+    if 0 <= x {
+        return Literal::Pos(x as usize);
     }
+    if x == -32768 {
+        return Literal::Neg(32768);
+    }
+    Literal::Neg((-x) as usize)
 }
